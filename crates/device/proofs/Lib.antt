@@ -1,0 +1,4 @@
+pub mod Banks
+pub mod Cells
+pub mod Changing
+pub mod Tables

@@ -1,0 +1,4 @@
+pub mod Bank
+pub mod Layers
+pub mod Meaning
+pub mod Words

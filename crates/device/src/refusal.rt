@@ -2,6 +2,7 @@
 ghost use mathlib.Core.Path.{_≡_};
 ghost use lib.Chars.{codes};
 ghost use Rattle.device.specs.Words.{number-of, words};
+use std::error::Error;
 use std::fmt;
 
 // Why a device or a bank refuses a call.
@@ -31,6 +32,14 @@ impl Refusal {
         }
     }
 }
+
+pub impl fmt::Display for Refusal as RefusalDisplay {
+    fn fmt<W: fmt::Write>(&self, f: &mut fmt::Formatter<W>) -> fmt::Result {
+        f.write_str(self.words())
+    }
+}
+
+pub impl Error for Refusal as RefusalError {}
 
 // Whether a device writes, and if not, why.
 #[derive(Clone, Copy, PartialEq, Eq, Debug)]
@@ -77,3 +86,5 @@ pub impl fmt::Display for InputRefusal as InputRefusalDisplay {
         )
     }
 }
+
+pub impl Error for InputRefusal as InputRefusalError {}

@@ -1,0 +1,39 @@
+// Symbols written to a buffer of any bank.
+ghost use mathlib.Core.Path.{_≡_};
+ghost use lib.ListN.{getD, set};
+ghost use Rattle.device.specs.Words.{words};
+ghost use Rattle.std.specs.Options.{mapped};
+ghost use Rattle.std.specs.declared.option.Option.the-variants.{None};
+ghost use Rattle.tape_copy.specs.Copying.{written};
+use device::bank::Bank;
+use device::refusal::Refusal;
+
+// How many symbols were taken, and the refusal that stopped it.
+#[derive(Clone, Copy)]
+pub struct Writing {
+    pub count: usize,
+    pub refusal: Option<Refusal>,
+}
+
+// Writes symbols to buffer n, up to the first refusal.
+pub fn write_in<B: Bank>(bank: &mut B, n: u8, symbols: &[u8]) -> Writing
+    ensures count { λ r. ⌜ r .count ≡ written (now (symbols .entry)) (getD (devices (now (bank .entry))) n None) .count ⌝ }
+    ensures refusal { λ r. ⌜ mapped words (r .refusal) ≡ written (now (symbols .entry)) (getD (devices (now (bank .entry))) n None) .refusal ⌝ }
+    ensures after { λ _. ⌜ devices (now (bank .exit)) ≡ set (devices (now (bank .entry))) n (written (now (symbols .entry)) (getD (devices (now (bank .entry))) n None) .device) ⌝ }
+{
+    for (i, symbol) in symbols.iter().enumerate() {
+        match bank.write(n, *symbol) {
+            Ok(()) => {}
+            Err(refusal) => {
+                return Writing {
+                    count: i,
+                    refusal: Some(refusal),
+                };
+            }
+        }
+    }
+    Writing {
+        count: symbols.len(),
+        refusal: None,
+    }
+}

@@ -1,5 +1,6 @@
 // A device plugged on a buffer above a bank, hiding what the bank has there.
 ghost use mathlib.Core.Path.{_≡_};
+ghost use lib.Dec.{eqb};
 ghost use Rattle.device.specs.Bank.{plugged};
 use super::bank::Bank;
 use super::buffer::Buffer;
@@ -24,6 +25,13 @@ impl<D, B> Plugged<D, B> {
             buffer,
             below,
         }
+    }
+
+    // Whether a number is the device's own.
+    fn is_here(&self, n: u8) -> bool
+        ensures { λ r. ⌜ r ≡ eqb n (now (self .entry) .buffer .number) ⌝ }
+    {
+        n == self.buffer.number()
     }
 
     pub fn device(&self) -> &D
@@ -52,7 +60,7 @@ pub impl<D: Device, B: Bank> Bank for Plugged<D, B> as PluggedBank {
     ghost devices = { λ p. plugged (B·Bank .devices (p .below)) (p .buffer .number) (D·Device .meaning (p .device)) };
 
     fn read(&mut self, n: u8) -> Result<u8, Refusal> {
-        if n == self.buffer.number() {
+        if self.is_here(n) {
             self.device.read()
         } else {
             self.below.read(n)
@@ -60,7 +68,7 @@ pub impl<D: Device, B: Bank> Bank for Plugged<D, B> as PluggedBank {
     }
 
     fn write(&mut self, n: u8, symbol: u8) -> Result<(), Refusal> {
-        if n == self.buffer.number() {
+        if self.is_here(n) {
             self.device.write(symbol)
         } else {
             self.below.write(n, symbol)
@@ -68,7 +76,7 @@ pub impl<D: Device, B: Bank> Bank for Plugged<D, B> as PluggedBank {
     }
 
     fn seek(&mut self, n: u8, cell: u16) -> Result<(), Refusal> {
-        if n == self.buffer.number() {
+        if self.is_here(n) {
             self.device.seek(cell)
         } else {
             self.below.seek(n, cell)
@@ -76,7 +84,7 @@ pub impl<D: Device, B: Bank> Bank for Plugged<D, B> as PluggedBank {
     }
 
     fn head(&self, n: u8) -> Result<u16, Refusal> {
-        if n == self.buffer.number() {
+        if self.is_here(n) {
             Ok(self.device.head())
         } else {
             self.below.head(n)

@@ -1,4 +1,5 @@
 use mathlib.Core.Path.{ap, _∙_}
+use lib.ListN.{getD}
 use Rattle.std.specs.declared.result.Result.the-variants.{Ok}
 use Rattle.device.proofs.Changing.{read-through, read-changed}
 use Rattle.device.proofs.code_changer.CodeChangerDevice.read.Needs as need
@@ -9,7 +10,7 @@ returns-in-Ok g c =
     let t = d .table .shown in
     let m = g .D·Device .meaning (d .below) in
     record {
-      answer = ap Ok (c .show .ensures) ∙ read-through t (d .table .symbols) m (c .in-Ok .ensures tt .answer);
+      answer = ap Ok {y = getD t (c .in-Ok .symbol) 0} (c .show .ensures) ∙ read-through t (d .table .symbols) m (c .in-Ok .ensures tt .answer);
       after = read-changed t (d .table .symbols) m {m′ = g .D·Device .meaning (c .read .last .self)} (c .in-Ok .ensures tt .after);
     }
 

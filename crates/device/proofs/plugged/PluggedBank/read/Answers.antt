@@ -1,31 +1,31 @@
-use mathlib.Core.Path.{_≡_}
+use mathlib.Core.Path.{_≡_, sym}
 use mathlib.Core.Logic.{_≢_}
-use native.Mathlib.Omega.{arith}
+use Rattle.std.proofs.shelf.Tests.{eqb-true, eqb-false}
 use Rattle.device.specs.Meaning.{read-answer, read-after}
 use Rattle.device.proofs.Banks.{answer-here, after-here, answer-other, after-other}
 use Rattle.device.proofs.plugged.PluggedBank.read.Needs as need
 
-pub returns-then-n-number : need.returns-then-n-number
-returns-then-n-number g c =
+pub returns-then-is-here : need.returns-then-is-here
+returns-then-is-here g c =
     let p = c .args .self .now in
     let b = g .B·Bank .devices (p .below) in
     let n = p .buffer .number in
     let m = g .D·Device .meaning (p .device) in
     let w = g .B·Bank·met .whole (p .below) in
-    let same : c .args .n ≡ n = omega arith in
+    let same : c .args .n ≡ n = eqb-true _ _ (sym (c .if-is-here .ensures tt)) in
     record {
       answer = answer-here b n m _ same w (p .buffer .few) read-answer (c .read .ensures .answer);
       after = after-here b n m _ same w (p .buffer .few) read-after (c .read .ensures .after);
     }
 
-pub returns-else-n-number : need.returns-else-n-number
-returns-else-n-number g c =
+pub returns-else-is-here : need.returns-else-is-here
+returns-else-is-here g c =
     let p = c .args .self .now in
     let b = g .B·Bank .devices (p .below) in
     let n = p .buffer .number in
     let m = g .D·Device .meaning (p .device) in
-    let other : c .args .n ≢ n = omega arith in
+    let other : c .args .n ≢ n = eqb-false _ _ (sym (c .if-is-here .ensures tt)) in
     record {
-      answer = answer-other b n m _ other read-answer (c .read-else-n-number .ensures .answer);
-      after = after-other b n m _ other read-after (c .read-else-n-number .ensures .after);
+      answer = answer-other b n m _ other read-answer (c .read-else-is-here .ensures .answer);
+      after = after-other b n m _ other read-after (c .read-else-is-here .ensures .after);
     }

@@ -1,0 +1,3 @@
+pub mod Found
+pub mod Locks
+pub mod Mapping

@@ -1,0 +1,3 @@
+// The sixteen buffers: owners, work and locks.
+pub mod buffer;
+pub mod table;

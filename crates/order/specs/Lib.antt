@@ -1,0 +1,5 @@
+pub mod Cells
+pub mod Shape
+pub mod Orders
+pub mod Table
+pub mod Laws

@@ -1,0 +1,5 @@
+pub mod Bounds
+pub mod Outlook
+pub mod Own
+pub mod Places
+pub mod Words

@@ -1,0 +1,5 @@
+pub mod Pile
+pub mod QStore
+pub mod Registers
+pub mod Sound
+pub mod Enough

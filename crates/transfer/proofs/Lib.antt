@@ -1,0 +1,8 @@
+pub mod Standing
+pub mod Gathering
+pub mod Words
+pub mod Sending
+pub mod Effects
+pub mod Confined
+pub mod Drums
+pub mod Keeping

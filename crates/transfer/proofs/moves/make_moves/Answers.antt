@@ -1,0 +1,35 @@
+use mathlib.Core.Path.{_≡_, sym, ap, subst, _∙_}
+use lib.ListN.{drop}
+use Rattle.std.proofs.shelf.Lists.{drop-all}
+use Rattle.transfer.specs.Symbols.{standing}
+use Rattle.transfer.specs.Moves.{Left, effect, in-turn}
+use Rattle.transfer.specs.Keeping.{Keeps}
+use Rattle.transfer.proofs.Standing.{standing-set, beside-set, beside-all}
+use Rattle.transfer.proofs.Effects.{nothing-after, in-turn-more, in-turn-none}
+use Rattle.transfer.proofs.Keeping.{keeps}
+use Rattle.transfer.proofs.moves.make_moves.Needs as need
+
+pub loop-x-again : need.loop-x-again
+loop-x-again g c =
+    let b = g .B·Bank .devices (c .loop-x .bank) in
+    let e = c .make-move .ensures in
+    let then = standing-set (c .args .n) b _ (nothing-after _ (c .loop-x .area) (standing b (c .args .n))) (e .after) in (
+      in-turn-more (c .args .moves .now) (c .loop-x .x-index) _ (c .loop-x .area) (c .make-move .last .area) (standing b (c .args .n)) _ (c .loop-x-test .taken) (e .area) then ∙ c .loop-x .inv .0,
+      beside-set (c .args .n) _ b _ (e .after) (c .loop-x .inv .1),
+    )
+
+pub returns : need.returns
+returns g c =
+    let b₀ = g .B·Bank .devices (c .args .bank .now) in
+    let d = standing b₀ (c .args .n) in
+    let b = g .B·Bank .devices (c .loop-x .bank) in
+    let made : in-turn (c .args .moves .now) (c .args .area .now) d ≡ record { area = c .loop-x .area; device = standing b (c .args .n) } =
+    sym (c .loop-x .inv .0)
+    ∙ ap (λ l. in-turn l (c .loop-x .area) (standing b (c .args .n))) (drop-all (c .loop-x .x-index) (c .args .moves .now) (c .loop-x-test .left))
+    ∙ in-turn-none (c .loop-x .area) (standing b (c .args .n)) in
+    let area = sym (ap (λ (y : Left). y .area) made) in
+    record {
+      area = area;
+      after = beside-all (c .args .n) b₀ b _ (c .loop-x .inv .1) (sym (ap (λ (y : Left). y .device) made));
+      keeps = subst (Keeps (c .args .moves .now) d (c .args .area .now)) (sym area) (keeps (c .args .moves .now) d (c .args .area .now) (g .B·Bank·met .whole (c .args .bank .now) .each-sound (c .args .n)));
+    }

@@ -1,0 +1,4 @@
+pub mod Symbols
+pub mod Moves
+pub mod Keeping
+pub mod Samples

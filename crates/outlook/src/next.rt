@@ -37,12 +37,7 @@ fn unreadable(undecoded: Undecoded) -> Bound
 }
 
 // The next order of the program in a slot, or the first bound that it breaks. Nothing is changed.
-pub fn outlook(
-    slot: u8,
-    regs: &Registers,
-    area: &[u64],
-    buffers: &Buffers,
-) -> Result<Next, Bound>
+pub fn outlook(slot: u8, regs: &Registers, area: &[u64], buffers: &Buffers) -> Result<Next, Bound>
     ensures { λ r. ⌜ ((ready : Bool) (bank : ℕ → Option Meaning) → r ≡ foreseen (own-of slot (now (regs .entry)) (now (area .entry)) ready (records (now (buffers .entry) .table)) bank)) ⌝ }
 {
     let place = regs.place();

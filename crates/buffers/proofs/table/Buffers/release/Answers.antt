@@ -23,6 +23,7 @@ pub returns : need.returns
 returns c = mapped-all (released (c .args .slot)) (c .args .self .now .table) (c .loop-k .k) (omega (arith, c .args .self .now .sixteen)) (c .loop-k .inv)
 
 pub ghost-self : need.ghost-self
-ghost-self c =
-    (ap length (all c) ∙ length-map (c .args .self .now .table) (released (c .args .slot)) ∙ c .args .self .now .sixteen,
-    ((λ e. subst Quiet (sym (all c)) (released-quiet (c .args .slot) (c .args .self .now .table) (c .args .self .now .quiet e))), tt))
+ghost-self c = (
+  ap length (all c) ∙ length-map (c .args .self .now .table) (released (c .args .slot)) ∙ c .args .self .now .sixteen,
+  ((λ e. subst Quiet (sym (all c)) (released-quiet (c .args .slot) (c .args .self .now .table) (c .args .self .now .quiet e))), tt),
+)

@@ -1,5 +1,5 @@
 pub mod Banks
 pub mod Cells
 pub mod Changing
-pub mod Seats
+pub mod Standing
 pub mod Tables

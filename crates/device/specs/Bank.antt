@@ -2,6 +2,9 @@
 --
 -- Devices                      the meaning of a bank
 -- Whole                        what holds of every bank's meaning
+-- standing                     the device on a number, or nothing
+-- no-devices                   the empty bank
+-- answer-of, after-of          a call of what stands on a number: what it answers, and what stands there after it
 -- bank-answer, bank-after      a call at a number: what it answers, and the bank after it
 -- plugged                      a bank with a device on a number, hiding what stood there
 use mathlib.Core.List.{List}
@@ -23,6 +26,10 @@ pub record Whole (b : Devices) : Type 0 where
   pub sixteen : length b ≡ 16
   pub each-sound : (n : ℕ) → Cases (getD b n None) (Unit {0}) Sound
 
+-- what stands on a number; past the last buffer there is nothing
+abbrev pub standing : Devices → ℕ → Option Meaning
+standing b n = getD b n None
+
 abbrev pub no-devices : Devices
 no-devices = replicate 16 None
 
@@ -36,12 +43,11 @@ abbrev pub after-of : (Meaning → Meaning) → Option Meaning → Option Meanin
 after-of f None = None
 after-of f (Some m) = Some (f m)
 
--- past the last buffer there is nothing
 abbrev pub bank-answer : {A : Type 0} → (Meaning → Result A String) → Devices → ℕ → Result A String
-bank-answer f b n = answer-of f (getD b n None)
+bank-answer f b n = answer-of f (standing b n)
 
 abbrev pub bank-after : (Meaning → Meaning) → Devices → ℕ → Devices
-bank-after f b n = set b n (after-of f (getD b n None))
+bank-after f b n = set b n (after-of f (standing b n))
 
 abbrev pub plugged : Devices → ℕ → Meaning → Devices
 plugged b n m = set b n (Some m)

@@ -1,7 +1,9 @@
 -- What a layer makes of the meaning of the device below it.
 --
--- without-ring     ring-off: writing yes becomes no ring
+-- ring-taken       what ring-off makes of writing: yes becomes no ring
+-- without-ring     a device whose ring is off
 -- occurs           how often a symbol stands in a table
+-- each-below       whether each number below some number passes a test
 -- fit              whether a table holds 0 to 63 once each
 -- seen, changed    a cell, and a device, seen through a table
 use mathlib.Core.Bool.{Bool, true, cond, _&&_}

@@ -6,7 +6,7 @@ ghost use Rattle.outlook.specs.Own.{own-of};
 ghost use Rattle.program.specs.Effects.{attempted};
 ghost use Rattle.program.specs.Kept.{Kept};
 ghost use Rattle.program.specs.Told.{told};
-ghost use Rattle.transfer.specs.Symbols.{standing};
+ghost use Rattle.device.specs.Bank.{standing};
 use crate::carry::carry_next;
 use crate::outcome::Outcome;
 use buffers::table::Buffers;

@@ -11,7 +11,7 @@ ghost use Rattle.outlook.specs.Own.{own-of};
 ghost use Rattle.program.specs.Effects.{carried};
 ghost use Rattle.program.specs.Kept.{Kept};
 ghost use Rattle.program.specs.Told.{told};
-ghost use Rattle.transfer.specs.Symbols.{standing};
+ghost use Rattle.device.specs.Bank.{standing};
 use crate::doing::do_indexed;
 use crate::doing::do_out;
 use crate::doing::do_register;

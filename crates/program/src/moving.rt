@@ -8,7 +8,7 @@ ghost use Rattle.program.specs.Effects.{kind-of, move-by, work-by, moved-by, a
 ghost use Rattle.program.specs.Kept.{Kept};
 ghost use Rattle.program.specs.Told.{told};
 ghost use Rattle.registers.specs.Registers.{regs-of, with-place, with-test};
-ghost use Rattle.transfer.specs.Symbols.{standing};
+ghost use Rattle.device.specs.Bank.{standing};
 use crate::outcome::Outcome;
 use buffers::buffer::Work;
 use buffers::table::Buffers;

@@ -16,6 +16,6 @@ copy part.Cm from to = parts (from .c) (to .i) (from .m)
 copy part.Ci from to = parts (from .c) (from .i) (to .m)
 copy part.Q from to = from
 
--- MTO, ITO, IMTO, CTO, CMTO, CITO, QTO: of k, to q
+-- 80 MTO, 81 ITO, 82 IMTO, 83 CTO, 84 CMTO, 85 CITO, 86 QTO: of k, to q
 abbrev pub copied : Parts → ℕ → ℕ → Regs → Regs
 copied p k q r = put-q q (copy p (q-of k r) (q-of q r)) r

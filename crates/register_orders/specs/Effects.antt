@@ -11,7 +11,7 @@ use Rattle.register_orders.specs.Shifts.{shifted}
 use Rattle.register_orders.specs.Jumps.{jumped, jumped-on-count, exited}
 use Rattle.register_orders.specs.Copies.{copied}
 
--- a count is a signed length; SET pushes a signed number
+-- a count is a signed length; 60 SET pushes a signed number
 abbrev pub effect : RegisterOrder → Regs → Regs
 effect (Move o) r = moved o r
 effect (Unary o) r = replaced o r

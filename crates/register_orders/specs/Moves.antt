@@ -5,7 +5,7 @@ use Rattle.order.specs.declared.code.MoveOrder.{MoveOrder}
 use Rattle.order.specs.declared.code.MoveOrder.the-variants.{Zero, Dup, Erase, Rev, Perm, Cab}
 use Rattle.registers.specs.Registers.{Regs, N1, N2, N3, push, pop, with-nest}
 
--- ZERO, DUP, ERASE, REV, PERM, CAB
+-- 01 ZERO, 02 DUP, 03 ERASE, 04 REV, 05 PERM, 06 CAB
 abbrev pub moved : MoveOrder → Regs → Regs
 moved Zero r = push 0 r
 moved Dup r = push (N1 r) r

@@ -4,8 +4,7 @@
 --   length-fits   of an order that takes lengths from so far right to so far left; a cyclic shift turns by at most 48
 --   shift-fits    whether an order's length is one that it takes; an order that is no shift has none
 use mathlib.Core.Bool.{Bool, true, _&&_}
-use Prim.Native.Nat.{ℕ}
-use lib.IntN.{ℤ, pos, negsuc, negℤ}
+use lib.IntN.{ℤ, pos, negℤ}
 use lib.Signed.{leZ}
 use Rattle.word.specs.Wrap.{signed}
 use Rattle.word.specs.Shift.{logical, arithmetic, cyclic}
@@ -13,11 +12,11 @@ use Rattle.order.specs.declared.code.Shift.{Shift}
 use Rattle.order.specs.declared.code.Shift.the-variants.{Arithmetic, Logical, Cyclic}
 use Rattle.order.specs.declared.code.RegisterOrder.{RegisterOrder}
 use Rattle.order.specs.declared.code.RegisterOrder.the-variants.{Move, Unary, Binary, Control, Q, ShiftByCount, ShiftBy, Exit, Jump, Set, JumpCount, Copy}
-use Rattle.registers.specs.Registers.{Regs, N1, q-of, push, pop, push-number}
+use Rattle.registers.specs.Registers.{Regs, N1, signed-N1, q-of, push, pop, push-number}
 
--- SHA and SHAC, SHL and SHLC, SHC and SHCC
+-- 40 SHA and 33 SHAC, 41 SHL and 34 SHLC, 42 SHC and 35 SHCC
 abbrev pub shifted : Shift → ℤ → Regs → Regs
-shifted Arithmetic l r = push-number (arithmetic l (signed 48 (N1 r))) (pop r)
+shifted Arithmetic l r = push-number (arithmetic l (signed-N1 r)) (pop r)
 shifted Logical l r = push (logical 48 l (N1 r)) (pop r)
 shifted Cyclic l r = push (cyclic 48 l (N1 r)) (pop r)
 

@@ -1,34 +1,27 @@
 -- Orders that replace N1, or N2 and N1, by one word: what each leaves.
-use Prim.Native.Nat.{_-_, _^_}
 use lib.Bits.{bitAnd, bitOr, bitXor}
 use lib.Count.{ones}
-use lib.IntN.{ℤ, negℤ, _+ℤ_, _-ℤ_}
-use Rattle.word.specs.Wrap.{wrap, signed, sign, magnitude}
+use lib.IntN.{negℤ, _+ℤ_, _-ℤ_}
+use Rattle.word.specs.Wrap.{wrap, sign, magnitude}
+use Rattle.word.specs.Places.{inverted}
 use Rattle.order.specs.declared.code.UnaryOrder.{UnaryOrder}
 use Rattle.order.specs.declared.code.UnaryOrder.the-variants.{Neg, Abs, Not, Bits}
 use Rattle.order.specs.declared.code.BinaryOrder.{BinaryOrder}
 use Rattle.order.specs.declared.code.BinaryOrder.the-variants.{Add, Subtract, Sign, And, Either, Nev}
-use Rattle.registers.specs.Registers.{Regs, N1, N2, push, pop, push-number}
+use Rattle.registers.specs.Registers.{Regs, N1, N2, signed-N1, signed-N2, push, pop, push-number}
 
--- N1 and N2 as numbers
-abbrev pub V1 : Regs → ℤ
-V1 r = signed 48 (N1 r)
-
-abbrev pub V2 : Regs → ℤ
-V2 r = signed 48 (N2 r)
-
--- +, -, SIGN, AND, OR, NEV
+-- 07 +, 08 -, 0B SIGN, 0D AND, 0E OR, 0F NEV
 abbrev pub combined : BinaryOrder → Regs → Regs
-combined Add r = push-number (V2 r +ℤ V1 r) (pop (pop r))
-combined Subtract r = push-number (V2 r -ℤ V1 r) (pop (pop r))
-combined Sign r = push (wrap 48 (sign (V2 r) (V1 r))) (pop (pop r))
+combined Add r = push-number (signed-N2 r +ℤ signed-N1 r) (pop (pop r))
+combined Subtract r = push-number (signed-N2 r -ℤ signed-N1 r) (pop (pop r))
+combined Sign r = push (wrap 48 (sign (signed-N2 r) (signed-N1 r))) (pop (pop r))
 combined And r = push (bitAnd (N2 r) (N1 r)) (pop (pop r))
 combined Either r = push (bitOr (N2 r) (N1 r)) (pop (pop r))
 combined Nev r = push (bitXor (N2 r) (N1 r)) (pop (pop r))
 
--- NEG, ABS, NOT, BITS
+-- 09 NEG, 0A ABS, 0C NOT, 10 BITS
 abbrev pub replaced : UnaryOrder → Regs → Regs
-replaced Neg r = push-number (negℤ (V1 r)) (pop r)
-replaced Abs r = push-number (magnitude (V1 r)) (pop r)
-replaced Not r = push (2 ^ 48 - 1 - N1 r) (pop r)
+replaced Neg r = push-number (negℤ (signed-N1 r)) (pop r)
+replaced Abs r = push-number (magnitude (signed-N1 r)) (pop r)
+replaced Not r = push (inverted 48 (N1 r)) (pop r)
 replaced Bits r = push (ones (N1 r)) (pop r)

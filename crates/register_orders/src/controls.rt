@@ -6,8 +6,8 @@ ghost use Rattle.registers.specs.Enough.{Enough};
 ghost use Rattle.register_orders.specs.Controls.{controlled};
 use order::code::ControlOrder;
 use registers::registers::Registers;
+use word::q::link_word;
 use word::q::word_part;
-use word::word::Word;
 
 pub(crate) fn control(order: ControlOrder, regs: &mut Registers)
     requires { ⌜ Enough (control-cells order) (regs-of (now regs)) ⌝ }
@@ -22,7 +22,7 @@ pub(crate) fn control(order: ControlOrder, regs: &mut Registers)
         }
         ControlOrder::FromLink => {
             let link = regs.pop_link();
-            regs.push_word(Word::new(u64::from(link)));
+            regs.push_word(link_word(link));
         }
         ControlOrder::ToLink => {
             let n1 = regs.pop_word();

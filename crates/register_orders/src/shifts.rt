@@ -1,5 +1,4 @@
 // Shifts of N1, and the lengths that they take.
-ghost use mathlib.Core.Bool.{true};
 ghost use mathlib.Core.Path.{_≡_};
 ghost use Prim.Native.Nat.{_≤_};
 ghost use lib.IntN.{natAbs};
@@ -7,7 +6,7 @@ ghost use Rattle.order.specs.Cells.{unary-cells};
 ghost use Rattle.order.specs.Shape.{Register-within};
 ghost use Rattle.registers.specs.Registers.{regs-of};
 ghost use Rattle.registers.specs.Enough.{Enough};
-ghost use Rattle.register_orders.specs.Shifts.{from-to, length-fits, shift-fits, shifted};
+ghost use Rattle.register_orders.specs.Shifts.{length-fits, shift-fits, shifted};
 use crate::sums::push_checked;
 use order::code::RegisterOrder;
 use order::code::Shift;

@@ -2,17 +2,18 @@
 --   Regs         what the registers hold; nest and links begin with the newest
 --   regs-of      what the registers of the code hold
 --   no-regs      what new registers hold
---   N1, N2, N3   the words on top of the nest; link: the newest link; q-of q: Q number q
+--   N1, N2, N3   the words on top of the nest; signed-N1, signed-N2: as numbers
+--   link, q-of   the newest link, and the Q of a number
 --   push, pop    a word onto the nest, and N1 removed; push-link, pop-link: likewise the links
 --   put-q q x    x written into Q number q
---   go-if b a    a jump to place a if b
+--   go-if b a    a jump to place a if b; overflow-if b: V set if b
 --   push-number  the word of a number onto the nest, V set if the number is that of no word
 --   with-..      one register replaced
 use mathlib.Core.Bool.{Bool, false, cond, _||_}
 use mathlib.Core.List.{List, [], _∷_, map}
 use Prim.Native.Nat.{ℕ}
 use lib.IntN.{ℤ}
-use Rattle.word.specs.Wrap.{wrap, outside}
+use Rattle.word.specs.Wrap.{wrap, signed, outside}
 use Rattle.word.specs.declared.q.Q.{Q}
 use Rattle.word.specs.declared.word.Word.{Word}
 use Rattle.registers.specs.Pile.{stacked}
@@ -74,7 +75,7 @@ abbrev pub tl : List ℕ → List ℕ
 tl [] = []
 tl (x ∷ xs) = xs
 
--- N1, N2, N3, the newest link and Q number q
+-- the words on top of the nest
 abbrev pub N1 : Regs → ℕ
 N1 r = hd (r .nest)
 
@@ -84,20 +85,30 @@ N2 r = hd (tl (r .nest))
 abbrev pub N3 : Regs → ℕ
 N3 r = hd (tl (tl (r .nest)))
 
+-- N1 and N2 as two's complement numbers
+abbrev pub signed-N1 : Regs → ℤ
+signed-N1 r = signed 48 (N1 r)
+
+abbrev pub signed-N2 : Regs → ℤ
+signed-N2 r = signed 48 (N2 r)
+
+-- the newest link, and Q number q
 abbrev pub link : Regs → ℕ
 link r = hd (r .links)
 
 abbrev pub q-of : ℕ → Regs → Q
 q-of q r = q-at q (r .qs)
 
--- the moves that the orders are made of
+-- the changes that the orders are made of
 
+-- a word onto the nest, and N1 removed
 abbrev pub push : ℕ → Regs → Regs
 push x r = with-nest (x ∷ r .nest) r
 
 abbrev pub pop : Regs → Regs
 pop r = with-nest (tl (r .nest)) r
 
+-- a place onto the links, and the newest removed
 abbrev pub push-link : ℕ → Regs → Regs
 push-link x r = with-links (x ∷ r .links) r
 
@@ -108,9 +119,11 @@ pop-link r = with-links (tl (r .links)) r
 abbrev pub put-q : ℕ → Q → Regs → Regs
 put-q q x r = with-qs (q-put q x (r .qs)) r
 
+-- V is set if b, and stays set
 abbrev pub overflow-if : Bool → Regs → Regs
 overflow-if b r = with-overflow (r .overflow || b) r
 
+-- a jump to a if b
 abbrev pub go-if : Bool → ℕ → Regs → Regs
 go-if b a r = cond b (with-place a r) r
 

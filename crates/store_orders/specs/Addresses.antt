@@ -3,9 +3,10 @@
 --   joint             Mk + Mq; joint-half: Mk + Mq/2 rounded down, of an order on half words
 --   indexed-address   the one of these two that an order has
 --   address-of        of any order; none if it touches no word of the area by an address
-use Prim.Native.Nat.{ℕ, _+_, _/_, _%_, _^_}
+use Prim.Native.Nat.{ℕ, _/_}
 use Rattle.std.specs.declared.option.Option.{Option}
 use Rattle.std.specs.declared.option.Option.the-variants.{None, Some}
+use Rattle.word.specs.Qs.{address-sum}
 use Rattle.order.specs.declared.code.IndexedOrder.{IndexedOrder}
 use Rattle.order.specs.declared.code.IndexedOrder.the-variants as indexed
 use Rattle.order.specs.declared.code.Order.{Order}
@@ -13,13 +14,13 @@ use Rattle.order.specs.declared.code.Order.the-variants.{Register, Store, Index
 use Rattle.registers.specs.Registers.{Regs, q-of}
 
 abbrev pub store-address : ℕ → ℕ → Regs → ℕ
-store-address q e r = (e + q-of q r .m) % 2 ^ 16
+store-address q e r = address-sum e (q-of q r .m)
 
 abbrev pub joint : ℕ → ℕ → Regs → ℕ
-joint k q r = (q-of k r .m + q-of q r .m) % 2 ^ 16
+joint k q r = address-sum (q-of k r .m) (q-of q r .m)
 
 abbrev pub joint-half : ℕ → ℕ → Regs → ℕ
-joint-half k q r = (q-of k r .m + q-of q r .m / 2) % 2 ^ 16
+joint-half k q r = address-sum (q-of k r .m) (q-of q r .m / 2)
 
 abbrev pub indexed-address : IndexedOrder → ℕ → ℕ → Regs → ℕ
 indexed-address indexed.Fetch k q r = joint k q r

@@ -10,7 +10,7 @@ use Rattle.registers.specs.Registers.{Regs, q-of}
 use Rattle.store_orders.specs.State.{State, on-regs, fetch, put, fetch-half, put-half, stepped}
 use Rattle.store_orders.specs.Addresses.{store-address, joint, joint-half}
 
--- E, EQ, =E, =EQ
+-- 70 E, 71 EQ, 72 =E, 73 =EQ
 abbrev pub on-store : StoreOrder → ℕ → ℕ → State → State
 on-store store.Fetch q e s = fetch (store-address q e (s .regs)) s
 on-store store.FetchStep q e s = on-regs (stepped q) (fetch (store-address q e (s .regs)) s)
@@ -21,7 +21,7 @@ on-store store.PutStep q e s = on-regs (stepped q) (put (store-address q e (s .r
 abbrev pub even : ℕ → Regs → Bool
 even q r = eqb (q-of q r .m % 2) 0
 
--- MM, =MM, MMQ, =MMQ, MMH, =MMH
+-- 78 MM, 79 =MM, 7A MMQ, 7B =MMQ, 7C MMH, 7D =MMH
 abbrev pub on-indexed : IndexedOrder → ℕ → ℕ → State → State
 on-indexed indexed.Fetch k q s = fetch (joint k q (s .regs)) s
 on-indexed indexed.Put k q s = put (joint k q (s .regs)) s

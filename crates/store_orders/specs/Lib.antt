@@ -1,3 +1,4 @@
 pub mod State
 pub mod Addresses
 pub mod Effects
+pub mod Writes

@@ -6,8 +6,9 @@
 --   stepped      M+I and DC, on Q number q
 use mathlib.Core.Bool.{Bool, cond}
 use mathlib.Core.List.{List}
-use Prim.Native.Nat.{ℕ, _+_, _*_, _/_, _%_, _^_}
+use Prim.Native.Nat.{ℕ, _%_, _^_}
 use lib.ListN.{getD, set}
+use Rattle.word.specs.Halves.{upper-half, lower-half, with-upper, with-lower}
 use Rattle.word.specs.Qs.{advanced, counted-down}
 use Rattle.registers.specs.Registers.{Regs, N1, push, pop, q-of, put-q}
 
@@ -35,24 +36,12 @@ stored a x s = state (pop (s .regs)) (set (s .area) a x)
 abbrev pub put : ℕ → State → State
 put a s = stored a (N1 (s .regs)) s
 
--- the upper and the lower 24 bits of a word
-abbrev pub upper : ℕ → ℕ
-upper x = x / 2 ^ 24
-
-abbrev pub lower : ℕ → ℕ
-lower x = x % 2 ^ 24
-
--- a word by its halves
-abbrev pub halves : ℕ → ℕ → ℕ
-halves u l = u * 2 ^ 24 + l
-
 -- the upper half if b, else the lower one
 abbrev pub fetch-half : Bool → ℕ → State → State
-fetch-half b a s = on-regs (push (halves (cond b (upper (word-at a s)) (lower (word-at a s))) 0)) s
+fetch-half b a s = on-regs (push (cond b (upper-half (word-at a s)) (lower-half (word-at a s)))) s
 
 abbrev pub put-half : Bool → ℕ → State → State
-put-half b a s =
-    stored a (cond b (halves (upper (N1 (s .regs))) (lower (word-at a s))) (halves (upper (word-at a s)) (upper (N1 (s .regs))))) s
+put-half b a s = stored a (cond b (with-upper (N1 (s .regs)) (word-at a s)) (with-lower (N1 (s .regs)) (word-at a s))) s
 
 abbrev pub stepped : ℕ → Regs → Regs
 stepped q r = put-q q (counted-down (advanced (q-of q r))) r

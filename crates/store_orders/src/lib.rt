@@ -1,6 +1,7 @@
 // The orders that fetch from and store to the area of a program.
 mod addresses;
 mod halves;
+pub mod laws;
 mod orders;
 mod words;
 

@@ -1,11 +1,10 @@
 // A device read out: every cell from the head on, over any bank.
 ghost use mathlib.Core.Path.{_≡_};
-ghost use Prim.Native.Nat.{ℕ};
-ghost use lib.ListN.{getD, set};
+ghost use lib.ListN.{set};
+ghost use Rattle.device.specs.Bank.{standing};
 ghost use Rattle.device.specs.Words.{words};
 ghost use Rattle.std.specs.Of.Vec.{vec-items};
 ghost use Rattle.std.specs.Results.{Cases};
-ghost use Rattle.std.specs.declared.option.Option.the-variants.{None};
 ghost use Rattle.tape_copy.specs.Copying.{unread, sound-cells, damaged-cells, stop-of, run-out};
 use device::bank::Bank;
 use device::refusal::Refusal;
@@ -25,8 +24,8 @@ pub struct Reading {
 
 // Reads buffer n up to a refusal other than "damaged". Want of memory is found before the first cell is read.
 pub fn read_out<B: Bank>(heap: Global, bank: &mut B, n: u8) -> Result<Reading, AllocError>
-    ensures answer { λ r. ⌜ Cases r (λ x. (vec-items (x .symbols) ≡ sound-cells (unread (getD (devices (now (bank .entry))) n None))) × (vec-items (x .damaged) ≡ damaged-cells 0 (unread (getD (devices (now (bank .entry))) n None))) × (words (x .stop) ≡ stop-of (getD (devices (now (bank .entry))) n None))) (λ _. Unit {0}) ⌝ }
-    ensures after { λ r. ⌜ Cases r (λ _. devices (now (bank .exit)) ≡ set (devices (now (bank .entry))) n (run-out (getD (devices (now (bank .entry))) n None))) (λ _. devices (now (bank .exit)) ≡ devices (now (bank .entry))) ⌝ }
+    ensures answer { λ r. ⌜ Cases r (λ x. (vec-items (x .symbols) ≡ sound-cells (unread (standing (devices (now (bank .entry))) n))) × (vec-items (x .damaged) ≡ damaged-cells 0 (unread (standing (devices (now (bank .entry))) n))) × (words (x .stop) ≡ stop-of (standing (devices (now (bank .entry))) n))) (λ _. Unit {0}) ⌝ }
+    ensures after { λ r. ⌜ Cases r (λ _. devices (now (bank .exit)) ≡ set (devices (now (bank .entry))) n (run-out (standing (devices (now (bank .entry))) n))) (λ _. devices (now (bank .exit)) ≡ devices (now (bank .entry))) ⌝ }
 {
     let mut symbols = Vec::with_capacity(heap, 4096)?;
     let mut damaged = Vec::with_capacity(heap, 4096)?;

@@ -1,9 +1,9 @@
 // Symbols written to a buffer of any bank.
 ghost use mathlib.Core.Path.{_≡_};
-ghost use lib.ListN.{getD, set};
+ghost use lib.ListN.{set};
+ghost use Rattle.device.specs.Bank.{standing};
 ghost use Rattle.device.specs.Words.{words};
 ghost use Rattle.std.specs.Options.{mapped};
-ghost use Rattle.std.specs.declared.option.Option.the-variants.{None};
 ghost use Rattle.tape_copy.specs.Copying.{written};
 use device::bank::Bank;
 use device::refusal::Refusal;
@@ -17,9 +17,9 @@ pub struct Writing {
 
 // Writes symbols to buffer n, up to the first refusal.
 pub fn write_in<B: Bank>(bank: &mut B, n: u8, symbols: &[u8]) -> Writing
-    ensures count { λ r. ⌜ r .count ≡ written (now (symbols .entry)) (getD (devices (now (bank .entry))) n None) .count ⌝ }
-    ensures refusal { λ r. ⌜ mapped words (r .refusal) ≡ written (now (symbols .entry)) (getD (devices (now (bank .entry))) n None) .refusal ⌝ }
-    ensures after { λ _. ⌜ devices (now (bank .exit)) ≡ set (devices (now (bank .entry))) n (written (now (symbols .entry)) (getD (devices (now (bank .entry))) n None) .device) ⌝ }
+    ensures count { λ r. ⌜ r .count ≡ written (now (symbols .entry)) (standing (devices (now (bank .entry))) n) .count ⌝ }
+    ensures refusal { λ r. ⌜ mapped words (r .refusal) ≡ written (now (symbols .entry)) (standing (devices (now (bank .entry))) n) .refusal ⌝ }
+    ensures after { λ _. ⌜ devices (now (bank .exit)) ≡ set (devices (now (bank .entry))) n (written (now (symbols .entry)) (standing (devices (now (bank .entry))) n) .device) ⌝ }
 {
     for (i, symbol) in symbols.iter().enumerate() {
         match bank.write(n, *symbol) {

@@ -1,20 +1,22 @@
 -- What moves leave as it was, and moves one after another.
 use mathlib.Core.Path.{_≡_, refl, sym, ap, ap₂, _∙_}
-use mathlib.Core.Bool.{Bool, cond}
+use mathlib.Core.Bool.{cond}
 use mathlib.Core.List.{List, [], _∷_, _++_}
 use Prim.Native.Nat.{ℕ, zero, suc, _+_, _-_, _*_, _<_, _≤_}
 use lib.ListN.{length, getD, set, drop}
 use Rattle.std.proofs.shelf.Lists.{length-set, drop-more}
 use Rattle.std.proofs.shelf.Tests.{le-ltb}
 use Rattle.std.specs.declared.option.Option.{Option}
-use Rattle.std.specs.declared.option.Option.the-variants.{Some, None}
+use Rattle.std.specs.declared.option.Option.the-variants.{None}
 use Rattle.device.specs.Meaning.{Meaning, seek-after}
-use Rattle.device.specs.Bank.{after-of}
+use Rattle.device.specs.Bank.{Devices, after-of}
 use Rattle.transfer.specs.declared.moves.Transfer.{Transfer}
 use Rattle.transfer.specs.declared.moves.Transfer.the-variants.{Read, Write, Seek}
 use Rattle.transfer.specs.declared.moves.Move.{Move}
-use Rattle.transfer.specs.Symbols.{gather, send, packed, stored, spread}
-use Rattle.transfer.specs.Moves.{Effect, Left, span, read-effect, write-effect, effect-of, effect, in-turn}
+use Rattle.transfer.specs.Symbols.{gather, send, stored, spread}
+use Rattle.device.specs.Bank.{standing}
+use Rattle.transfer.specs.Moves.{Left, span, read-effect, write-effect, effect-of, effect, in-turn}
+use Rattle.device.proofs.Standing.{Beside, standing-set, beside-set}
 use Rattle.transfer.proofs.Words.{gather-nothing}
 use Rattle.transfer.proofs.Sending.{send-nothing}
 
@@ -63,12 +65,17 @@ unfolding in-turn
 in-turn-append [] ys area d = refl
 in-turn-append (x ∷ xs) ys area d = in-turn-append xs ys _ _
 
--- one move more of a list
-pub in-turn-more : (xs : List Move) (i : ℕ) (x : Move) (area area′ : List ℕ) (d d′ : Option Meaning) → i < length xs →
-    area′ ≡ effect (getD xs i x) area d .area → d′ ≡ effect (getD xs i x) area d .device →
-    in-turn (drop (i + 1) xs) area′ d′ ≡ in-turn (drop i xs) area d
+-- one move more of a list, made on buffer n of a bank: what is left still gives the whole
+pub in-turn-more : (n : ℕ) (xs : List Move) (i : ℕ) (x : Move) (b₀ b b′ : Devices) (whole : Left) (area area′ : List ℕ) → i < length xs →
+    area′ ≡ effect (getD xs i x) area (standing b n) .area → b′ ≡ set b n (effect (getD xs i x) area (standing b n) .device) →
+    in-turn (drop i xs) area (standing b n) ≡ whole → Beside n b₀ b →
+    (in-turn (drop (i + 1) xs) area′ (standing b′ n) ≡ whole) × Beside n b₀ b′
 unfolding in-turn
-in-turn-more xs i x area area′ d d′ h ea ed = ap₂ (in-turn (drop (i + 1) xs)) ea ed ∙ sym (ap (λ l. in-turn l area d) (drop-more xs i x h))
+in-turn-more n xs i x b₀ b b′ whole area area′ h ea eb left others =
+    let then : standing b′ n ≡ effect (getD xs i x) area (standing b n) .device = standing-set n b _ (nothing-after (getD xs i x) area (standing b n)) eb in (
+      ap₂ (in-turn (drop (i + 1) xs)) ea then ∙ sym (ap (λ l. in-turn l area (standing b n)) (drop-more xs i x h)) ∙ left,
+      beside-set n b₀ b _ eb others,
+    )
 
 pub in-turn-none : (area : List ℕ) (d : Option Meaning) → in-turn [] area d ≡ record { area = area; device = d }
 unfolding in-turn

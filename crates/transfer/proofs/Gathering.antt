@@ -1,11 +1,10 @@
 -- One more symbol of a word that is read from a bank.
 use mathlib.Core.Path.{_≡_, refl, sym, ap, subst, _∙_}
 use mathlib.Core.List.{List, [], _∷_}
-use mathlib.Core.Bool.{Bool, true, false, cond, _&&_}
+use mathlib.Core.Bool.{Bool, true, false, cond}
 use Prim.Native.Nat.{ℕ, zero, suc, _+_, _-_, _*_, _%_, _^_, _<_, _≤_}
 use Prim.Native.String.{String}
 use native.Mathlib.Omega.{arith}
-use lib.Dec.{eqb, ltb}
 use lib.ListN.{length, getD, set}
 use lib.Pow.{pow-add}
 use Rattle.std.proofs.shelf.Bits.{mul-le}
@@ -15,11 +14,12 @@ use Rattle.std.specs.declared.option.Option.{Option}
 use Rattle.std.specs.declared.option.Option.the-variants.{Some, None}
 use Rattle.std.specs.declared.result.Result.{Result}
 use Rattle.std.specs.declared.result.Result.the-variants.{Ok, Err}
-use Rattle.device.specs.Meaning.{Meaning, Sound, read-answer, read-after, under-head}
+use Rattle.device.specs.Meaning.{Meaning, Sound, read-answer, read-after}
 use Rattle.device.specs.Bank.{Devices, Whole, answer-of, after-of, bank-answer, bank-after}
-use Rattle.transfer.specs.Symbols.{standing, Stop, Run, gather, go-on, behind, ending, packed}
+use Rattle.transfer.specs.Symbols.{Stop, Run, gather, go-on, behind, ending, packed}
+use Rattle.device.specs.Bank.{standing}
 use Rattle.transfer.specs.Symbols.Stop.{all, message-end, refused}
-use Rattle.transfer.proofs.Standing.{standing-after, Beside, beside-more, beside-all}
+use Rattle.device.proofs.Standing.{standing-after, Beside, beside-more, beside-all}
 
 -- a symbol that is read is below 64
 pub read-below : (m : Meaning) → Sound m → (s : ℕ) → Ok s ≡ read-answer m → s < 64

@@ -1,6 +1,6 @@
 -- A drum keeps what is written on it.
 use mathlib.Core.Path.{_≡_, refl, sym, ap, ap₂, subst, _∙_}
-use mathlib.Core.Bool.{Bool, false, cond}
+use mathlib.Core.Bool.{false, cond}
 use mathlib.Core.List.{List, [], _∷_, _++_}
 use mathlib.Core.Logic.{_⊎_, inl, inr}
 use Prim.Native.Nat.{ℕ, _+_, _-_, _*_, _%_, _^_, _<_, _≤_}
@@ -10,15 +10,14 @@ use Rattle.std.proofs.shelf.Lists.{append-nil, getD-set-same}
 use Rattle.std.proofs.shelf.Tests.{cases-lt, lt-ltb}
 use Rattle.std.specs.Options.{Cases}
 use Rattle.std.specs.declared.option.Option.{Option}
-use Rattle.std.specs.declared.option.Option.the-variants.{Some, None}
+use Rattle.std.specs.declared.option.Option.the-variants.{Some}
 use Rattle.device.specs.Meaning.{Meaning, Sound, moved, seek-after}
-use Rattle.device.specs.Bank.{after-of}
 use Rattle.transfer.specs.declared.moves.Transfer.{Transfer}
 use Rattle.transfer.specs.declared.moves.Transfer.the-variants.{Read, Write, Seek}
 use Rattle.transfer.specs.declared.moves.Move.{Move}
 use Rattle.transfer.specs.Symbols.{gather, send, packed, unpacked, stored, spread}
 use Rattle.transfer.specs.Moves.{Left, span, effect-of, effect, in-turn}
-use Rattle.transfer.specs.Keeping.{Drum, Passes, Spares, Spared, Keeps, Drum-keeps, seek-of, write-of, read-of, written, read-back, follow, found}
+use Rattle.transfer.specs.Keeping.{Passes, Spares, Spared, Keeps, Drum-keeps, seek-of, write-of, read-of, written, read-back, follow, found}
 use Rattle.transfer.proofs.Sending.{length-unpacked}
 use Rattle.transfer.proofs.Effects.{in-turn-length, in-turn-append}
 use Rattle.transfer.proofs.Drums.{Ready, Still, Laid, ready-at, read-ready, still-gather, seek-ready, seek-there, wrote, laid, laid-same, read-laid, small-unpacked, packed-unpacked}

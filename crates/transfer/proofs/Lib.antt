@@ -1,4 +1,3 @@
-pub mod Standing
 pub mod Gathering
 pub mod Words
 pub mod Sending

@@ -1,21 +1,22 @@
 -- One more symbol of a word that is written to a bank, and one more word of a transfer.
-use mathlib.Core.Path.{_≡_, refl, sym, ap, ap₂, subst, _∙_}
+use mathlib.Core.Path.{_≡_, refl, sym, ap, subst, _∙_}
 use mathlib.Core.List.{List, [], _∷_, _++_}
-use mathlib.Core.Bool.{Bool, true, false, cond, _&&_}
-use Prim.Native.Nat.{ℕ, zero, suc, _+_, _-_, _*_, _/_, _%_, _^_, _<_, _≤_}
+use mathlib.Core.Bool.{Bool, true, false, cond}
+use Prim.Native.Nat.{ℕ, zero, suc, _+_, _-_, _*_, _/_, _%_, _^_, _≤_}
 use Prim.Native.String.{String}
 use native.Mathlib.Omega.{arith}
 use lib.ListN.{length, getD, set}
 use Rattle.std.proofs.shelf.Lists.{length-append}
 use Rattle.std.specs.declared.option.Option.{Option}
-use Rattle.std.specs.declared.option.Option.the-variants.{Some, None}
+use Rattle.std.specs.declared.option.Option.the-variants.{None}
 use Rattle.std.specs.declared.result.Result.{Result}
 use Rattle.std.specs.declared.result.Result.the-variants.{Ok, Err}
 use Rattle.device.specs.Meaning.{Meaning, write-answer, write-after}
 use Rattle.device.specs.Bank.{Devices, answer-of, after-of, bank-answer, bank-after}
-use Rattle.transfer.specs.Symbols.{standing, Stop, Sent, send, send-on, one-more, ending, unpacked, spread}
+use Rattle.transfer.specs.Symbols.{Stop, Sent, send, send-on, one-more, ending, unpacked, spread}
+use Rattle.device.specs.Bank.{standing}
 use Rattle.transfer.specs.Symbols.Stop.{all, message-end, refused}
-use Rattle.transfer.proofs.Standing.{standing-after, Beside, beside-more, beside-all}
+use Rattle.device.proofs.Standing.{standing-after, Beside, beside-more, beside-all}
 use Rattle.transfer.proofs.Words.{is-all}
 
 -- k symbols are still to go, and what is left gives the whole

@@ -1,6 +1,6 @@
 -- A drum keeps what is written on it.
 use mathlib.Core.Path.{_≡_}
-use mathlib.Core.Bool.{Bool, true, false}
+use mathlib.Core.Bool.{true, false}
 use mathlib.Core.List.{List, [], _∷_, _++_}
 use mathlib.Core.Logic.{_⊎_}
 use Prim.Native.Nat.{ℕ, _+_, _%_, _^_, _<_, _≤_}
@@ -12,7 +12,7 @@ use Rattle.device.specs.declared.refusal.Writing.the-variants.{Yes}
 use Rattle.transfer.specs.declared.moves.Transfer.{Transfer}
 use Rattle.transfer.specs.declared.moves.Transfer.the-variants.{Read, Write, Seek}
 use Rattle.transfer.specs.declared.moves.Move.{Move}
-use Rattle.transfer.specs.Moves.{effect, in-turn}
+use Rattle.transfer.specs.Moves.{effect}
 
 -- a drum reads, seeks and writes, and all its cells are there
 pub record Drum (m : Meaning) : Type 0 where

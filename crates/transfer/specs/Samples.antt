@@ -10,7 +10,7 @@ use Rattle.device.specs.declared.refusal.Writing.the-variants.{Yes, WrongWay}
 use Rattle.transfer.specs.declared.moves.Transfer.{Transfer}
 use Rattle.transfer.specs.declared.moves.Transfer.the-variants.{Read, Write}
 use Rattle.transfer.specs.declared.moves.Move.{Move}
-use Rattle.transfer.specs.Moves.{Effect, effect, in-turn}
+use Rattle.transfer.specs.Moves.{effect, in-turn}
 use Rattle.transfer.specs.Keeping.{seek-of, write-of, read-of}
 
 -- a tape with its head at h, a punch whose head is behind its cells, and a drum of two words

@@ -1,10 +1,10 @@
 -- Symbols between a device and words. A device is given as a bank has it: its meaning, or nothing.
-use mathlib.Core.Bool.{Bool, true, false, cond, _&&_}
+use mathlib.Core.Bool.{Bool, cond, _&&_}
 use mathlib.Core.List.{List, [], _∷_, _++_}
 use Prim.Native.Nat.{ℕ, zero, suc, _+_, _*_, _/_, _%_, _^_}
 use Prim.Native.String.{String}
 use lib.Dec.{eqb}
-use lib.ListN.{length, getD, set, drop}
+use lib.ListN.{getD, set, drop}
 use Rattle.std.specs.declared.option.Option.{Option}
 use Rattle.std.specs.declared.option.Option.the-variants.{Some, None}
 use Rattle.std.specs.declared.result.Result.{Result}
@@ -14,10 +14,6 @@ use Rattle.device.specs.Bank.{Devices, answer-of, after-of}
 use Rattle.device.specs.Words.{words}
 use Rattle.transfer.specs.declared.part.Stop.{Stop as Stopped}
 use Rattle.transfer.specs.declared.part.Stop.the-variants.{Full, EndMessage, Refused}
-
--- what stands on buffer n of a bank
-abbrev pub standing : Devices → ℕ → Option Meaning
-standing b n = getD b n None
 
 -- why a movement of symbols ended: all of them were moved, End Message was, or the device refused
 pub data Stop : Type 0 where

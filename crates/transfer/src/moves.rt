@@ -1,11 +1,11 @@
 // Moves between the area of a program and the device on a buffer of any bank.
 ghost use mathlib.Core.Path.{_≡_};
-ghost use lib.ListN.{set, length};
+ghost use lib.ListN.{set};
 ghost use Rattle.std.specs.Options.{mapped};
 ghost use Rattle.device.specs.Words.{words};
 ghost use Rattle.device.specs.Meaning.{seek-answer, seek-after};
 ghost use Rattle.device.specs.Bank.{answer-of, after-of};
-ghost use Rattle.transfer.specs.Symbols.{standing};
+ghost use Rattle.device.specs.Bank.{standing};
 ghost use Rattle.transfer.specs.Moves.{effect, error-of, in-turn, Confined};
 ghost use Rattle.transfer.specs.Keeping.{Keeps};
 use crate::reading::read_words;

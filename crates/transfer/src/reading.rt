@@ -2,7 +2,8 @@
 ghost use mathlib.Core.Path.{_≡_};
 ghost use Prim.Native.Nat.{_+_, _-_, _*_, _<_};
 ghost use lib.ListN.{length, set};
-ghost use Rattle.transfer.specs.Symbols.{standing, gather, packed, filled, stored, stop-of, why};
+ghost use Rattle.transfer.specs.Symbols.{gather, packed, filled, stored, stop-of, why};
+ghost use Rattle.device.specs.Bank.{standing};
 ghost use Rattle.std.specs.Options.{mapped};
 ghost use Rattle.device.specs.Words.{words};
 use crate::moves::Moved;

@@ -11,7 +11,6 @@ use lib.Signed.{ltZ, leZ, _≤ℤ_, _<ℤ_}
 use borrow.Author.Differences.{ints, up, down, same-in, same-out, sum-is, neg-is, product-is}
 use Rattle.std.proofs.shelf.Signed.{remEuclid-is}
 use Rattle.std.proofs.shelf.Tests.{lt-ltb, le-ltb, lt-leb, ltb-true, ltb-false, or-parts}
-use Rattle.std.specs.Numbers.{remEuclid}
 use Rattle.word.specs.Wrap.{wrap, signed, outside}
 use Rattle.word.specs.Laws.{Wraps}
 use Rattle.word.proofs.Powers.{factor, double}

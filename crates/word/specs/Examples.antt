@@ -1,7 +1,7 @@
 -- Worked examples, on the definitions that the contracts cite.
 use mathlib.Core.Path.{_≡_}
 use mathlib.Core.Bool.{true, false}
-use Prim.Native.Nat.{ℕ, _-_, _^_}
+use Prim.Native.Nat.{_-_, _^_}
 use lib.IntN.{pos, negsuc, negℤ}
 use Rattle.std.specs.declared.option.Option.the-variants.{Some}
 use Rattle.word.specs.Wrap.{wrap, signed, outside, sign}

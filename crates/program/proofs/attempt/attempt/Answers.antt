@@ -1,5 +1,5 @@
 use mathlib.Core.Path.{_≡_, sym, ap, _∙_}
-use Rattle.transfer.specs.Symbols.{standing}
+use Rattle.device.specs.Bank.{standing}
 use Rattle.buffers.specs.Buffers.{records}
 use Rattle.outlook.specs.Own.{own-of}
 use Rattle.program.specs.Effects.{tried}

@@ -10,7 +10,7 @@ use Rattle.device.specs.Meaning.{Meaning}
 use Rattle.order.specs.declared.code.Order.{Order}
 use Rattle.order.specs.declared.code.Order.the-variants.{Register, Store, Indexed, Transfer, Out}
 use Rattle.word.specs.declared.q.Q.{Q}
-use Rattle.transfer.specs.Symbols.{standing}
+use Rattle.device.specs.Bank.{standing}
 use Rattle.buffers.specs.Buffers.{records, holds}
 use Rattle.outlook.specs.Own.{Own, own-of}
 use Rattle.registers.specs.Registers.{q-of, regs-of}

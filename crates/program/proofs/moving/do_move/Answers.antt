@@ -7,7 +7,7 @@ use Rattle.std.specs.declared.option.Option.the-variants.{Some, None}
 use Rattle.device.specs.Words.{words}
 use Rattle.registers.specs.Registers.{regs-of}
 use Rattle.transfer.specs.Moves.{effect}
-use Rattle.transfer.specs.Symbols.{standing}
+use Rattle.device.specs.Bank.{standing}
 use Rattle.buffers.specs.Buffers.{free, records, with-work}
 use Rattle.program.specs.Effects.{move-by, work-by}
 use Rattle.program.specs.Kept.{update}

@@ -5,7 +5,8 @@ use Rattle.std.specs.declared.result.Result.the-variants.{Err}
 use Rattle.device.specs.Bank.{bank-answer}
 use Rattle.device.specs.Meaning.{read-answer, read-after}
 use Rattle.device.specs.Words.{words}
-use Rattle.device.proofs.Seats.{seat, seat-after, beside-none, beside-more, beside-all}
+use Rattle.device.specs.Bank.{standing}
+use Rattle.device.proofs.Standing.{standing-after, beside-none, beside-more, beside-all}
 use Rattle.tape_copy.proofs.Passing.{started, more, skip, stopped, renamed, room, few-left}
 use Rattle.tape_copy.proofs.reading.read_out.Needs as need
 use Rattle.tape_copy.proofs.reading.read_out.Needs.{in-Ok, in-Err·in-Damaged}
@@ -13,7 +14,7 @@ use Rattle.tape_copy.proofs.reading.read_out.Needs.{in-Ok, in-Err·in-Damaged}
 pub loop-number-holds : need.loop-number-holds
 loop-number-holds g c =
     let b = g .B·Bank .devices (c .args .bank .now) in
-    let d = seat b (c .args .n) in
+    let d = standing b (c .args .n) in
     let s = c .in-Continue-symbols .ensures tt .made in
     let t = c .in-Continue-damaged .ensures tt .made in (
       renamed d d 0 (s .0) (t .0) (started d),
@@ -32,8 +33,8 @@ push-reserved-requires g c κs =
     let told = c .in-Ok .ensures tt in
     let sound = g .B·Bank·met .whole (c .loop-number .bank) .each-sound n in
     let whole = g .B·Bank·met .whole (c .args .bank .now) .each-sound n in
-    let on = more _ (seat here n) _ _ _ sound (c .loop-number .inv .0) (c .in-Ok .symbol) {rest′ = seat (d (c .read .last .self)) n} (told .answer) (seat-after read-after here n {b′ = d (c .read .last .self)} (told .after)) in
-    let few = room _ (seat here n) _ _ _ sound (c .loop-number .inv .0) whole on in
+    let on = more _ (standing here n) _ _ _ sound (c .loop-number .inv .0) (c .in-Ok .symbol) {rest′ = standing (d (c .read .last .self)) n} (told .answer) (standing-after read-after here n {b′ = d (c .read .last .self)} (told .after)) in
+    let few = room _ (standing here n) _ _ _ sound (c .loop-number .inv .0) whole on in
     omega (arith, few, c .loop-number .inv .2, c .loop-number .inv .4)
 
 pub push-reserved-requires-in-Damaged : need.push-reserved-requires-in-Damaged
@@ -45,14 +46,14 @@ push-reserved-requires-in-Damaged g c κs =
     let sound = g .B·Bank·met .whole (c .loop-number .bank) .each-sound n in
     let whole = g .B·Bank·met .whole (c .args .bank .now) .each-sound n in
     let damaged : Err "damaged" ≡ bank-answer read-answer here n = sym (ap (λ r. Err (words r)) (c .in-Damaged .is)) ∙ told .answer in
-    let on = skip _ (seat here n) _ _ _ sound (c .loop-number .inv .0) {rest′ = seat (d (c .read .last .self)) n} damaged (seat-after read-after here n {b′ = d (c .read .last .self)} (told .after)) in
-    let few = room _ (seat here n) _ _ _ sound (c .loop-number .inv .0) whole on in
+    let on = skip _ (standing here n) _ _ _ sound (c .loop-number .inv .0) {rest′ = standing (d (c .read .last .self)) n} damaged (standing-after read-after here n {b′ = d (c .read .last .self)} (told .after)) in
+    let few = room _ (standing here n) _ _ _ sound (c .loop-number .inv .0) whole on in
     omega (arith, few, c .loop-number .inv .3, c .loop-number .inv .5)
 
 pub unreachable-requires : need.unreachable-requires
 unreachable-requires g c κs =
     let b = g .B·Bank .devices (c .args .bank .now) in
-    let few = few-left (seat b (c .args .n)) (g .B·Bank·met .whole (c .args .bank .now) .each-sound (c .args .n)) in
+    let few = few-left (standing b (c .args .n)) (g .B·Bank·met .whole (c .args .bank .now) .each-sound (c .args .n)) in
     omega (arith, few, c .loop-number .inv .0 .left)
 
 pub returns-in-rest : need.returns-in-rest
@@ -62,7 +63,7 @@ returns-in-rest g c =
     let here = d (c .loop-number .bank) in
     let told = c .in-Err .ensures tt in
     let sound = g .B·Bank·met .whole (c .loop-number .bank) .each-sound n in
-    let end = stopped _ (seat here n) _ _ _ sound (c .loop-number .inv .0) (c .in-Err .refusal) {rest′ = seat (d (c .read .last .self)) n} (c .in-rest .not-Damaged) (told .answer) (seat-after read-after here n {b′ = d (c .read .last .self)} (told .after)) in
+    let end = stopped _ (standing here n) _ _ _ sound (c .loop-number .inv .0) (c .in-Err .refusal) {rest′ = standing (d (c .read .last .self)) n} (c .in-rest .not-Damaged) (told .answer) (standing-after read-after here n {b′ = d (c .read .last .self)} (told .after)) in
     record {
       answer = (end .symbols, end .damaged, end .why);
       after = beside-all n (d (c .args .bank .now)) (d (c .read .last .self)) _ (beside-more read-after n (d (c .args .bank .now)) here {b′ = d (c .read .last .self)} (told .after) (c .loop-number .inv .1)) (end .out);
@@ -76,11 +77,11 @@ loop-number-again g c =
     let sound = g .B·Bank·met .whole (c .loop-number .bank) .each-sound n in
     let inv = c .loop-number .inv in
     let beside = beside-more read-after n (d (c .args .bank .now)) here {b′ = d (c .read .last .self)} (c .read .ensures .after) (inv .1) in
-    let then = seat-after read-after here n {b′ = d (c .read .last .self)} (c .read .ensures .after) in
+    let then = standing-after read-after here n {b′ = d (c .read .last .self)} (c .read .ensures .after) in
     elim (c .match-read .came) [
       | in-Ok w ↦
           let push = w .push-reserved .ensures in
-          let on = more _ (seat here n) _ _ _ sound (inv .0) (w .in-Ok .symbol) {rest′ = seat (d (c .read .last .self)) n} (w .in-Ok .ensures tt .answer) then in (
+          let on = more _ (standing here n) _ _ _ sound (inv .0) (w .in-Ok .symbol) {rest′ = standing (d (c .read .last .self)) n} (w .in-Ok .ensures tt .answer) then in (
             renamed _ _ _ (ap vec-items (w .symbols-is) ∙ push .items) (ap vec-items (w .damaged-is)) on,
             beside,
             omega (arith, ap vec-len (w .symbols-is), push .len, inv .2),
@@ -91,7 +92,7 @@ loop-number-again g c =
       | in-Err·in-Damaged w ↦
           let push = w .push-reserved-in-Damaged .ensures in
           let damaged : Err "damaged" ≡ bank-answer read-answer here n = sym (ap (λ r. Err (words r)) (w .in-Damaged .is)) ∙ w .in-Err .ensures tt .answer in
-          let on = skip _ (seat here n) _ _ _ sound (inv .0) {rest′ = seat (d (c .read .last .self)) n} damaged then in (
+          let on = skip _ (standing here n) _ _ _ sound (inv .0) {rest′ = standing (d (c .read .last .self)) n} damaged then in (
             renamed _ _ _ (ap vec-items (w .symbols-is)) (ap vec-items (w .damaged-is) ∙ push .items) on,
             beside,
             omega (arith, ap vec-len (w .symbols-is), inv .2),

@@ -6,7 +6,7 @@ use borrow.Author.Needs.{needs}
 use lib.ListN.{length, set}
 use Rattle.std.proofs.shelf.Lists.{set-getD}
 use Rattle.std.specs.declared.option.Option.the-variants.{None}
-use Rattle.transfer.specs.Symbols.{standing}
+use Rattle.device.specs.Bank.{standing}
 use Rattle.transfer.specs.Moves.{Effect, Confined, effect}
 use Rattle.transfer.proofs.Effects.{outside}
 use Rattle.transfer.proofs.Confined.{confined}

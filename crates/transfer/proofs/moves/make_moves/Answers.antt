@@ -1,22 +1,18 @@
 use mathlib.Core.Path.{_≡_, sym, ap, subst, _∙_}
-use lib.ListN.{drop}
 use Rattle.std.proofs.shelf.Lists.{drop-all}
-use Rattle.transfer.specs.Symbols.{standing}
-use Rattle.transfer.specs.Moves.{Left, effect, in-turn}
+use Rattle.device.specs.Bank.{standing}
+use Rattle.transfer.specs.Moves.{Left, in-turn}
 use Rattle.transfer.specs.Keeping.{Keeps}
-use Rattle.transfer.proofs.Standing.{standing-set, beside-set, beside-all}
-use Rattle.transfer.proofs.Effects.{nothing-after, in-turn-more, in-turn-none}
+use Rattle.device.proofs.Standing.{beside-all}
+use Rattle.transfer.proofs.Effects.{in-turn-more, in-turn-none}
 use Rattle.transfer.proofs.Keeping.{keeps}
 use Rattle.transfer.proofs.moves.make_moves.Needs as need
 
 pub loop-x-again : need.loop-x-again
 loop-x-again g c =
-    let b = g .B·Bank .devices (c .loop-x .bank) in
-    let e = c .make-move .ensures in
-    let then = standing-set (c .args .n) b _ (nothing-after _ (c .loop-x .area) (standing b (c .args .n))) (e .after) in (
-      in-turn-more (c .args .moves .now) (c .loop-x .x-index) _ (c .loop-x .area) (c .make-move .last .area) (standing b (c .args .n)) _ (c .loop-x-test .taken) (e .area) then ∙ c .loop-x .inv .0,
-      beside-set (c .args .n) _ b _ (e .after) (c .loop-x .inv .1),
-    )
+    let d = g .B·Bank .devices in
+    in-turn-more (c .args .n) (c .args .moves .now) (c .loop-x .x-index) _ (d (c .args .bank .now)) (d (c .loop-x .bank)) (d (c .make-move .last .bank)) _ (c .loop-x .area) (c .make-move .last .area)
+    (c .loop-x-test .taken) (c .make-move .ensures .area) (c .make-move .ensures .after) (c .loop-x .inv .0) (c .loop-x .inv .1)
 
 pub returns : need.returns
 returns g c =

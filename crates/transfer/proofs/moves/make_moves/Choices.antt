@@ -1,8 +1,8 @@
 use mathlib.Core.Path.{_≡_}
 use lib.ListN.{drop}
-use Rattle.transfer.specs.Symbols.{standing}
+use Rattle.device.specs.Bank.{standing}
 use Rattle.transfer.specs.Moves.{in-turn}
-use Rattle.transfer.proofs.Standing.{Beside}
+use Rattle.device.proofs.Standing.{Beside}
 use Rattle.transfer.proofs.moves.make_moves.Given as given
 
 abbrev pub Inv-loop-x : given.InvT-loop-x

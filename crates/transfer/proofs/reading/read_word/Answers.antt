@@ -1,12 +1,12 @@
-use mathlib.Core.Path.{_≡_, refl, sym, ap, _∙_}
-use Prim.Native.Nat.{suc, _+_, _-_, _*_, _%_, _^_, _<_, _≤_}
+use mathlib.Core.Path.{_≡_, sym, ap, _∙_}
+use Prim.Native.Nat.{suc, _+_, _-_, _*_, _^_, _<_, _≤_}
 use native.Mathlib.Omega.{arith}
 use Rattle.std.specs.declared.result.Result.the-variants.{Ok}
 use Rattle.device.specs.Meaning.{read-answer, read-after}
 use Rattle.device.specs.Bank.{bank-answer}
-use Rattle.transfer.specs.Symbols.{standing, gather, ending}
-use Rattle.transfer.proofs.Gathering.{Going, symbol-below, more, ended, fits, stopped, finished, shifted}
-use Rattle.transfer.proofs.Standing.{beside-none, beside-more}
+use Rattle.transfer.specs.Symbols.{ending}
+use Rattle.transfer.proofs.Gathering.{symbol-below, more, ended, fits, stopped, finished, shifted}
+use Rattle.device.proofs.Standing.{beside-more}
 use Rattle.transfer.proofs.reading.read_word.Given as given
 use Rattle.transfer.proofs.reading.read_word.Needs as need
 use Rattle.transfer.proofs.reading.read_word.Needs.{After-from}

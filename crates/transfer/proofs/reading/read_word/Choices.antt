@@ -1,6 +1,7 @@
-use Rattle.transfer.specs.Symbols.{standing, gather}
+use Rattle.transfer.specs.Symbols.{gather}
+use Rattle.device.specs.Bank.{standing}
 use Rattle.transfer.proofs.Gathering.{Going}
-use Rattle.transfer.proofs.Standing.{Beside}
+use Rattle.device.proofs.Standing.{Beside}
 use Rattle.transfer.proofs.reading.read_word.Given as given
 
 abbrev pub Inv-loop-k : given.InvT-loop-k

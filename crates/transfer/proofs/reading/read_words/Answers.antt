@@ -1,11 +1,12 @@
-use mathlib.Core.Path.{_≡_, refl, sym, ap, ap₂, subst, _∙_}
+use mathlib.Core.Path.{_≡_, sym, ap, _∙_}
 use mathlib.Core.Bool.{false}
-use Prim.Native.Nat.{ℕ, suc, _+_, _-_, _*_, _<_, _≤_}
+use Prim.Native.Nat.{suc, _+_, _-_, _*_}
 use native.Mathlib.Omega.{arith}
 use lib.ListN.{length, getD, set}
-use Rattle.transfer.specs.Symbols.{standing, Run, gather, why, filled, stop-of}
+use Rattle.transfer.specs.Symbols.{Run, gather, why, filled, stop-of}
+use Rattle.device.specs.Bank.{standing}
 use Rattle.transfer.proofs.Words.{Came, is-all, started, word-more, word-last, all-came, counted, gather-nothing}
-use Rattle.transfer.proofs.Standing.{standing-set, beside-none, beside-set, beside-all}
+use Rattle.device.proofs.Standing.{standing-set, beside-none, beside-set, beside-all}
 use Rattle.transfer.proofs.reading.read_words.Given as given
 use Rattle.transfer.proofs.reading.read_words.Needs as need
 use Rattle.transfer.proofs.reading.read_words.Needs.{After-from-symbols}

@@ -1,7 +1,8 @@
-use Prim.Native.Nat.{_+_, _-_, _*_, _≤_}
-use Rattle.transfer.specs.Symbols.{standing, gather}
+use Prim.Native.Nat.{_+_, _-_, _*_}
+use Rattle.transfer.specs.Symbols.{gather}
+use Rattle.device.specs.Bank.{standing}
 use Rattle.transfer.proofs.Words.{So-far}
-use Rattle.transfer.proofs.Standing.{Beside}
+use Rattle.device.proofs.Standing.{Beside}
 use Rattle.transfer.proofs.reading.read_words.Given as given
 
 abbrev pub Inv-loop-a : given.InvT-loop-a

@@ -1,9 +1,9 @@
-use mathlib.Core.Path.{_≡_, refl, sym, ap, _∙_}
+use mathlib.Core.Path.{_≡_, refl, sym, _∙_}
 use Prim.Native.Nat.{suc, _-_}
 use native.Mathlib.Omega.{arith}
 use Rattle.device.specs.Meaning.{write-after}
 use Rattle.transfer.proofs.Sending.{more, ended, stopped, finished}
-use Rattle.transfer.proofs.Standing.{beside-more}
+use Rattle.device.proofs.Standing.{beside-more}
 use Rattle.transfer.proofs.writing.write_word.Needs as need
 
 pub loop-k-again : need.loop-k-again

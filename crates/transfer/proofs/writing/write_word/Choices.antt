@@ -1,6 +1,7 @@
-use Rattle.transfer.specs.Symbols.{standing, send, unpacked}
+use Rattle.transfer.specs.Symbols.{send, unpacked}
+use Rattle.device.specs.Bank.{standing}
 use Rattle.transfer.proofs.Sending.{Going}
-use Rattle.transfer.proofs.Standing.{Beside}
+use Rattle.device.proofs.Standing.{Beside}
 use Rattle.transfer.proofs.writing.write_word.Given as given
 
 abbrev pub Inv-loop-k : given.InvT-loop-k

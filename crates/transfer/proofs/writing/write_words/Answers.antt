@@ -1,11 +1,12 @@
-use mathlib.Core.Path.{_≡_, refl, sym, ap, _∙_}
+use mathlib.Core.Path.{_≡_, sym, ap, _∙_}
 use mathlib.Core.Bool.{false}
-use Prim.Native.Nat.{suc, _+_, _-_, _*_}
+use Prim.Native.Nat.{suc, _+_, _-_}
 use native.Mathlib.Omega.{arith}
 use lib.ListN.{getD}
-use Rattle.transfer.specs.Symbols.{standing, Sent, send, spread, unpacked, why, stop-of}
+use Rattle.transfer.specs.Symbols.{Sent, send, spread, unpacked, why, stop-of}
+use Rattle.device.specs.Bank.{standing}
 use Rattle.transfer.proofs.Sending.{Went, started, word-more, word-last, all-went, most, most-of-word, length-spread, send-nothing}
-use Rattle.transfer.proofs.Standing.{standing-set, beside-none, beside-set, beside-all}
+use Rattle.device.proofs.Standing.{standing-set, beside-none, beside-set, beside-all}
 use Rattle.transfer.proofs.Words.{is-all}
 use Rattle.transfer.proofs.writing.write_words.Given as given
 use Rattle.transfer.proofs.writing.write_words.Needs as need

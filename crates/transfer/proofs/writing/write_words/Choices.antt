@@ -1,7 +1,8 @@
 use Prim.Native.Nat.{_+_, _-_}
-use Rattle.transfer.specs.Symbols.{standing, send, spread}
+use Rattle.transfer.specs.Symbols.{send, spread}
+use Rattle.device.specs.Bank.{standing}
 use Rattle.transfer.proofs.Sending.{So-far}
-use Rattle.transfer.proofs.Standing.{Beside}
+use Rattle.device.proofs.Standing.{Beside}
 use Rattle.transfer.proofs.writing.write_words.Given as given
 
 abbrev pub Inv-loop-a : given.InvT-loop-a

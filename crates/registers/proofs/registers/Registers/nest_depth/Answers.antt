@@ -1,4 +1,3 @@
-use mathlib.Core.Path.{_≡_}
 use Rattle.std.proofs.shelf.Lists.{length-map}
 use Rattle.registers.proofs.registers.Registers.nest_depth.Needs as need
 

@@ -1,8 +1,7 @@
-use mathlib.Core.Path.{_∙_, ap, sym, _≡_}
-use Prim.Native.Nat.{_^_, _<_, _≤_, _*_, _%_}
+use mathlib.Core.Path.{_∙_, ap, _≡_}
+use Prim.Native.Nat.{_^_, _<_, _*_, _%_}
 use native.Mathlib.Omega.{arith}
 use lib.IntN.{pos}
-use lib.Pow.{pow-mono}
 use mir.Syntax.{w64}
 use mir.Val.{toZ}
 use Rattle.std.proofs.shelf.Bits.{one-shl, pow-below}

@@ -1,15 +1,14 @@
 -- One number of a bank: what a call there makes of it, and that nothing else changes.
-use mathlib.Core.Path.{_≡_, refl, sym, ap, subst, _∙_}
+use mathlib.Core.Path.{_≡_, refl, sym, ap, _∙_}
 use mathlib.Core.Logic.{⊎-elim}
 use Prim.Native.Nat.{ℕ, _<_, _≤_}
-use lib.ListN.{length, getD, set}
+use lib.ListN.{length, set}
 use Rattle.std.proofs.shelf.Lists.{getD-set-same, set-set, set-getD, getD-past, set-past}
 use Rattle.std.proofs.shelf.Tests.{cases-lt}
 use Rattle.std.specs.declared.option.Option.{Option}
-use Rattle.std.specs.declared.option.Option.the-variants.{Some, None}
+use Rattle.std.specs.declared.option.Option.the-variants.{None}
 use Rattle.device.specs.Meaning.{Meaning}
-use Rattle.device.specs.Bank.{Devices, after-of, bank-after}
-use Rattle.transfer.specs.Symbols.{standing}
+use Rattle.device.specs.Bank.{Devices, standing, after-of, bank-after}
 
 -- what a call leaves at its number
 pub standing-after : (f : Meaning → Meaning) (b : Devices) (n : ℕ) {b′ : Devices} → b′ ≡ bank-after f b n → standing b′ n ≡ after-of f (standing b n)

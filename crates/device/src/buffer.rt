@@ -5,20 +5,20 @@ ghost use Rattle.device.specs.Words.{numbered, buffer-answer};
 use super::refusal::InputRefusal;
 
 #[derive(Clone, Copy)]
-pub struct Buffer {
+pub struct BufferNumber {
     number: u8,
     ghost few: { number ≤ 15 },
 }
 
-impl Buffer {
+impl BufferNumber {
     // The buffer of that number, refused by number 2 where it is over 15.
-    pub fn new(number: u8) -> Result<Buffer, InputRefusal>
+    pub fn new(number: u8) -> Result<BufferNumber, InputRefusal>
         ensures { λ r. ⌜ numbered (λ b. b .number) r ≡ buffer-answer number ⌝ }
     {
         if number > 15 {
             return Err(InputRefusal::BufferOver15);
         }
-        Ok(Buffer { number })
+        Ok(BufferNumber { number })
     }
 
     pub fn number(&self) -> u8

@@ -3,19 +3,19 @@ ghost use mathlib.Core.Path.{_≡_};
 ghost use lib.Dec.{eqb};
 ghost use Rattle.device.specs.Bank.{plugged};
 use super::bank::Bank;
-use super::buffer::Buffer;
+use super::buffer::BufferNumber;
 use super::device::Device;
 use super::refusal::Refusal;
 
 #[derive(Drop)]
 pub struct Plugged<D, B> {
     device: D,
-    buffer: Buffer,
+    buffer: BufferNumber,
     below: B,
 }
 
 impl<D, B> Plugged<D, B> {
-    pub fn new(device: D, buffer: Buffer, below: B) -> Plugged<D, B>
+    pub fn new(device: D, buffer: BufferNumber, below: B) -> Plugged<D, B>
         ensures device { λ r. ⌜ r .device ≡ device ⌝ }
         ensures buffer { λ r. ⌜ r .buffer ≡ buffer ⌝ }
         ensures below { λ r. ⌜ r .below ≡ below ⌝ }

@@ -143,21 +143,21 @@ pub enum Parts {
     Q,
 }
 
-// On the registers alone. The numbers are, in their order, the operands k and q; q; n; h; a; i.
+// On the registers alone. A comment names the operands that the numbers are.
 #[derive(Clone, Copy)]
 pub enum RegisterOrder {
     Move(MoveOrder),
     Unary(UnaryOrder),
     Binary(BinaryOrder),
     Control(ControlOrder),
-    Q(QOrder, u8),
-    ShiftByCount(Shift, u8),
-    ShiftBy(Shift, i8),
-    Exit(u8),
-    Jump(Condition, u16),
-    Set(i16),
-    JumpCount(CountTest, u8, u16),
-    Copy(Parts, u8, u8),
+    Q(QOrder, u8), // q
+    ShiftByCount(Shift, u8), // q
+    ShiftBy(Shift, i8), // n
+    Exit(u8), // h
+    Jump(Condition, u16), // a
+    Set(i16), // i
+    JumpCount(CountTest, u8, u16), // q, a
+    Copy(Parts, u8, u8), // k, q
 }
 
 // An order with its operands: q and e of `Store`, k and q of `Indexed`, q of `Transfer`.

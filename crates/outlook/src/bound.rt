@@ -70,4 +70,36 @@ impl Bound {
             _ => Violation::Liv,
         }
     }
+
+    // What a person reads of it.
+    pub fn words(self) -> &'static str
+        ensures { λ r. ⌜ now r ≡ codes (bound-words self) ⌝ }
+    {
+        match self {
+            Bound::Place => "place",
+            Bound::OrderLock => "lock on its words",
+            Bound::Command => "known command",
+            Bound::Operands => "q and k",
+            Bound::CellsShort => "nest and links short",
+            Bound::CellsOver => "nest and links over 16",
+            Bound::ShiftLength => "shift length",
+            Bound::Address => "address",
+            Bound::NoBuffer => "buffer",
+            Bound::Limits => "I and M",
+            Bound::Busy => "buffer busy",
+            Bound::WordLock => "lock on a word touched",
+        }
+    }
+}
+
+impl Violation {
+    pub fn name(self) -> &'static str
+        ensures { λ r. ⌜ now r ≡ codes (violation-name self) ⌝ }
+    {
+        match self {
+            Violation::Liv => "LIV",
+            Violation::Nouv => "NOUV",
+            Violation::Lov => "LOV",
+        }
+    }
 }

@@ -5,7 +5,6 @@ pub mod laws;
 mod orders;
 mod words;
 
-pub use addresses::address_of;
 pub use addresses::indexed_address;
 pub use addresses::store_address;
 pub use orders::on_indexed;

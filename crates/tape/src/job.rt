@@ -4,7 +4,7 @@ use super::report::print_text;
 use device::bank::Bank;
 use device::bank::EmptyBank;
 use device::bank::EmptyBankBank;
-use device::buffer::Buffer;
+use device::buffer::BufferNumber;
 use device::plugged::Plugged;
 use device::plugged::PluggedBank;
 use device::refusal::InputRefusalDebug;
@@ -64,9 +64,13 @@ fn devices(rt: &LibcRuntime, from: &str) -> Result<Devices, AnyError> {
     println!(rt, "tape: {count} frames in {from}")?;
     let mut reader = TapeReader::new(rt.alloc())?;
     reader.fill(frames.as_slice())?;
-    let punch = Plugged::new(Punch::new(rt.alloc())?, Buffer::new(PUNCH)?, EmptyBank);
-    let drum = Plugged::new(Drum::new(), Buffer::new(DRUM)?, punch);
-    Ok(Plugged::new(reader, Buffer::new(READER)?, drum))
+    let punch = Plugged::new(
+        Punch::new(rt.alloc())?,
+        BufferNumber::new(PUNCH)?,
+        EmptyBank,
+    );
+    let drum = Plugged::new(Drum::new(), BufferNumber::new(DRUM)?, punch);
+    Ok(Plugged::new(reader, BufferNumber::new(READER)?, drum))
 }
 
 // Writes symbols to a buffer, and says how many.

@@ -5,10 +5,12 @@
 -- sound-cells             the symbols among some cells
 -- damaged-cells           the numbers of the damaged ones, the first cell having the number n
 -- stop-of, run-out        the words with which reading on stops, and the device then: its head behind the last cell
+-- Copies-read-back        a copy read again gives the symbols that were copied
 -- Written, written        writing symbols up to the first refusal: how many were taken, the refusal, and the device then
 use mathlib.Core.Bool.{cond}
-use mathlib.Core.List.{List, [], _∷_}
-use Prim.Native.Nat.{ℕ, _+_}
+use mathlib.Core.List.{List, [], _∷_, map}
+use mathlib.Core.Path.{_≡_}
+use Prim.Native.Nat.{ℕ, _+_, _%_}
 use Prim.Native.String.{String}
 use lib.Dec.{eqb}
 use lib.ListN.{length, drop}
@@ -16,7 +18,8 @@ use Rattle.std.specs.declared.option.Option.{Option}
 use Rattle.std.specs.declared.option.Option.the-variants.{Some, None}
 use Rattle.std.specs.declared.result.Result.{Result}
 use Rattle.std.specs.declared.result.Result.the-variants.{Ok, Err}
-use Rattle.device.specs.Meaning.{Meaning, moved, write-answer, write-after}
+use Rattle.units.specs.Frames.{cell-of, frame-for}
+use Rattle.device.specs.Meaning.{Meaning, Below, moved, write-answer, write-after}
 use Rattle.device.specs.Bank.{answer-of, after-of}
 
 abbrev pub unread : Option Meaning → List ℕ
@@ -52,3 +55,7 @@ write-on (Err e) d rest = record { count = 0; refusal = Some e; device = d }
 unfoldable pub written : List ℕ → Option Meaning → Written
 written [] d = record { count = 0; refusal = None; device = d }
 written (s ∷ ss) d = write-on (answer-of write-answer d) (after-of (λ m. write-after m s) d) (written ss (after-of (λ m. write-after m s) d))
+
+-- what is read of the frames that are punched for symbols is those symbols
+abbrev pub Copies-read-back : Type 0
+Copies-read-back = (symbols : List ℕ) → Below 64 symbols → map cell-of (map (λ s. frame-for (s % 64)) symbols) ≡ symbols

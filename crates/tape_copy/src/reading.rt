@@ -14,7 +14,7 @@ use std::alloc::Global;
 // No device has more cells.
 const MOST_CELLS: u16 = 4096;
 
-// What reading on gave: the symbols, the numbers of the damaged cells counted from 0, and why it stopped.
+// What reading on gave: the symbols, the numbers of the damaged cells, counted from 0 at the first that was read, and why it stopped.
 #[derive(Drop)]
 pub struct Reading {
     pub symbols: Vec<u8>,

@@ -10,13 +10,13 @@ use device::refusal::Refusal;
 
 // How many symbols were taken, and the refusal that stopped it.
 #[derive(Clone, Copy)]
-pub struct Writing {
+pub struct WriteResult {
     pub count: usize,
     pub refusal: Option<Refusal>,
 }
 
 // Writes symbols to buffer n, up to the first refusal.
-pub fn write_in<B: Bank>(bank: &mut B, n: u8, symbols: &[u8]) -> Writing
+pub fn write_in<B: Bank>(bank: &mut B, n: u8, symbols: &[u8]) -> WriteResult
     ensures count { λ r. ⌜ r .count ≡ written (now (symbols .entry)) (standing (devices (now (bank .entry))) n) .count ⌝ }
     ensures refusal { λ r. ⌜ mapped words (r .refusal) ≡ written (now (symbols .entry)) (standing (devices (now (bank .entry))) n) .refusal ⌝ }
     ensures after { λ _. ⌜ devices (now (bank .exit)) ≡ set (devices (now (bank .entry))) n (written (now (symbols .entry)) (standing (devices (now (bank .entry))) n) .device) ⌝ }
@@ -25,14 +25,14 @@ pub fn write_in<B: Bank>(bank: &mut B, n: u8, symbols: &[u8]) -> Writing
         match bank.write(n, *symbol) {
             Ok(()) => {}
             Err(refusal) => {
-                return Writing {
+                return WriteResult {
                     count: i,
                     refusal: Some(refusal),
                 };
             }
         }
     }
-    Writing {
+    WriteResult {
         count: symbols.len(),
         refusal: None,
     }

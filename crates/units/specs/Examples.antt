@@ -13,7 +13,7 @@ use Rattle.units.specs.Units.{reader-of, filled}
 abbrev pub two-frames : Devices
 two-frames = plugged no-devices 3 (filled (33 ∷ 189 ∷ []) (reader-of [] 0))
 
--- the bank after k reads of buffer 3
+-- the bank after one read of buffer 3
 abbrev pub read-once : Devices → Devices
 read-once b = bank-after read-after b 3
 

@@ -16,7 +16,7 @@ use units::reader::TapeReader;
 use units::reader::TapeReaderDevice;
 
 // Where a drum writes, ring-off does not; where a reader does not write, ring-off changes nothing.
-pub fn run_ring_off(rt: &LibcRuntime) -> Result<(), AnyError> {
+pub(crate) fn run_ring_off(rt: &LibcRuntime) -> Result<(), AnyError> {
     let mut drum = RingOff::new(Drum::new());
     let write = drum.write(5);
     let seek = drum.seek(4096);
@@ -38,7 +38,7 @@ pub fn run_ring_off(rt: &LibcRuntime) -> Result<(), AnyError> {
 }
 
 // The table turns each symbol s into 63 - s.
-pub fn run_changer(rt: &LibcRuntime) -> Result<(), AnyError> {
+pub(crate) fn run_changer(rt: &LibcRuntime) -> Result<(), AnyError> {
     let mut shown = [0u8; 64];
     for s in 0..64u8 {
         shown[s as usize] = 63 - s;

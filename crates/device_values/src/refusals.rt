@@ -20,7 +20,7 @@ use units::punch::PunchDevice;
 use units::reader::TapeReader;
 
 // 4096 symbols are taken, and one more is not.
-pub fn run_punch(rt: &LibcRuntime) -> Result<(), AnyError> {
+pub(crate) fn run_punch(rt: &LibcRuntime) -> Result<(), AnyError> {
     let mut punch = Punch::new(rt.alloc())?;
     let mut last = Ok(());
     for _ in 0..4096 {
@@ -41,7 +41,7 @@ pub fn run_punch(rt: &LibcRuntime) -> Result<(), AnyError> {
 }
 
 // A punch on buffer 15 hides the drum that is plugged there below it.
-pub fn run_bank(rt: &LibcRuntime) -> Result<(), AnyError> {
+pub(crate) fn run_bank(rt: &LibcRuntime) -> Result<(), AnyError> {
     let below = Plugged::new(Drum::new(), BufferNumber::new(15)?, EmptyBank);
     let punch = Punch::new(rt.alloc())?;
     let mut bank = Plugged::new(punch, BufferNumber::new(15)?, below);
@@ -62,7 +62,7 @@ pub fn run_bank(rt: &LibcRuntime) -> Result<(), AnyError> {
 }
 
 // Buffer 16, 4097 frames, and a table that holds a symbol twice.
-pub fn run_input(rt: &LibcRuntime) -> Result<(), AnyError> {
+pub(crate) fn run_input(rt: &LibcRuntime) -> Result<(), AnyError> {
     if let Err(refusal) = BufferNumber::new(16) {
         print_refusal(rt, refusal)?;
     }

@@ -12,7 +12,7 @@ use order::code::StoreOrder;
 use order::code::TransferOrder;
 use order::code::UnaryOrder;
 
-pub fn move_name(order: MoveOrder) -> &'static str {
+pub(crate) fn move_name(order: MoveOrder) -> &'static str {
     match order {
         MoveOrder::Zero => "ZERO",
         MoveOrder::Dup => "DUP",
@@ -23,7 +23,7 @@ pub fn move_name(order: MoveOrder) -> &'static str {
     }
 }
 
-pub fn unary_name(order: UnaryOrder) -> &'static str {
+pub(crate) fn unary_name(order: UnaryOrder) -> &'static str {
     match order {
         UnaryOrder::Neg => "NEG",
         UnaryOrder::Abs => "ABS",
@@ -32,7 +32,7 @@ pub fn unary_name(order: UnaryOrder) -> &'static str {
     }
 }
 
-pub fn binary_name(order: BinaryOrder) -> &'static str {
+pub(crate) fn binary_name(order: BinaryOrder) -> &'static str {
     match order {
         BinaryOrder::Add => "+",
         BinaryOrder::Subtract => "-",
@@ -43,7 +43,7 @@ pub fn binary_name(order: BinaryOrder) -> &'static str {
     }
 }
 
-pub fn control_name(order: ControlOrder) -> &'static str {
+pub(crate) fn control_name(order: ControlOrder) -> &'static str {
     match order {
         ControlOrder::Dummy => "DUMMY",
         ControlOrder::ClearOverflow => "VR",
@@ -53,7 +53,7 @@ pub fn control_name(order: ControlOrder) -> &'static str {
     }
 }
 
-pub fn q_name(order: QOrder) -> &'static str {
+pub(crate) fn q_name(order: QOrder) -> &'static str {
     match order {
         QOrder::Advance => "M+I",
         QOrder::Retreat => "M-I",
@@ -77,7 +77,7 @@ pub fn q_name(order: QOrder) -> &'static str {
     }
 }
 
-pub fn shift_by_count_name(order: Shift) -> &'static str {
+pub(crate) fn shift_by_count_name(order: Shift) -> &'static str {
     match order {
         Shift::Arithmetic => "SHAC",
         Shift::Logical => "SHLC",
@@ -85,7 +85,7 @@ pub fn shift_by_count_name(order: Shift) -> &'static str {
     }
 }
 
-pub fn transfer_name(order: TransferOrder) -> &'static str {
+pub(crate) fn transfer_name(order: TransferOrder) -> &'static str {
     match order {
         TransferOrder::Read => "RD",
         TransferOrder::ReadToEnd => "RDE",
@@ -96,7 +96,7 @@ pub fn transfer_name(order: TransferOrder) -> &'static str {
     }
 }
 
-pub fn shift_name(order: Shift) -> &'static str {
+pub(crate) fn shift_name(order: Shift) -> &'static str {
     match order {
         Shift::Arithmetic => "SHA",
         Shift::Logical => "SHL",
@@ -104,7 +104,7 @@ pub fn shift_name(order: Shift) -> &'static str {
     }
 }
 
-pub fn condition_name(order: Condition) -> &'static str {
+pub(crate) fn condition_name(order: Condition) -> &'static str {
     match order {
         Condition::Always => "J",
         Condition::ToSubroutine => "JS",
@@ -125,14 +125,14 @@ pub fn condition_name(order: Condition) -> &'static str {
     }
 }
 
-pub fn count_test_name(order: CountTest) -> &'static str {
+pub(crate) fn count_test_name(order: CountTest) -> &'static str {
     match order {
         CountTest::IfZero => "JCZ",
         CountTest::IfNotZero => "JCNZ",
     }
 }
 
-pub fn store_name(order: StoreOrder) -> &'static str {
+pub(crate) fn store_name(order: StoreOrder) -> &'static str {
     match order {
         StoreOrder::Fetch => "E",
         StoreOrder::FetchStep => "EQ",
@@ -141,7 +141,7 @@ pub fn store_name(order: StoreOrder) -> &'static str {
     }
 }
 
-pub fn indexed_name(order: IndexedOrder) -> &'static str {
+pub(crate) fn indexed_name(order: IndexedOrder) -> &'static str {
     match order {
         IndexedOrder::Fetch => "MM",
         IndexedOrder::Put => "=MM",
@@ -152,7 +152,7 @@ pub fn indexed_name(order: IndexedOrder) -> &'static str {
     }
 }
 
-pub fn parts_name(order: Parts) -> &'static str {
+pub(crate) fn parts_name(order: Parts) -> &'static str {
     match order {
         Parts::M => "MTO",
         Parts::I => "ITO",

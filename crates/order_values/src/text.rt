@@ -17,7 +17,7 @@ use order::code::RegisterOrder;
 use std::alloc::AllocError;
 use std::alloc::Global;
 
-pub fn order_text(heap: Global, order: Order) -> Result<String, AllocError> {
+pub(crate) fn order_text(heap: Global, order: Order) -> Result<String, AllocError> {
     match order {
         Order::Register(o) => register_text(heap, o),
         Order::Store(o, q, e) => with_two(heap, store_name(o), q, e),

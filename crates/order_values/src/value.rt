@@ -29,7 +29,7 @@ impl Tally {
     };
 }
 
-pub fn compare(rt: &LibcRuntime, line: &str, tally: &mut Tally) -> Result<(), AnyError> {
+pub(crate) fn compare(rt: &LibcRuntime, line: &str, tally: &mut Tally) -> Result<(), AnyError> {
     let Some((bytes, expected)) = line.split_once(" = ") else {
         return Err("a line without an equals sign".into());
     };

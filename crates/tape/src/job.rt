@@ -34,7 +34,7 @@ const PUNCH: u8 = 2;
 // The reader above the drum above the punch.
 type Devices = Plugged<TapeReader, Plugged<Drum, Plugged<Punch, EmptyBank>>>;
 
-pub fn copy_tape(rt: &LibcRuntime, from: &str, to: &str) -> Result<(), AnyError> {
+pub(crate) fn copy_tape(rt: &LibcRuntime, from: &str, to: &str) -> Result<(), AnyError> {
     let mut bank = devices(rt, from)?;
     let tape = read_out(rt.alloc(), &mut bank, READER)?;
     print_damaged(rt, tape.damaged.as_slice())?;

@@ -1,3 +1,5 @@
 // The sixteen buffers: owners, work and locks.
+#![tactic(auto)]
+
 pub mod buffer;
 pub mod table;

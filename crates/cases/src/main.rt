@@ -1,4 +1,6 @@
 // Runs the worked cases of cases.txt, one program each, and compares what comes with what the file says.
+#![tactic(auto)]
+
 mod cases;
 mod devices;
 mod found;

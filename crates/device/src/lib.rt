@@ -1,4 +1,6 @@
 // What a device is and what a bank of devices is, the layers over any device, and the bank that plugging makes.
+#![tactic(auto)]
+
 pub mod bank;
 pub mod buffer;
 pub mod code_changer;

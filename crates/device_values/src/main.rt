@@ -1,4 +1,6 @@
 // Runs devices, layers and banks through their calls and refusals, and prints what each answers.
+#![tactic(auto)]
+
 mod layers;
 mod refusals;
 

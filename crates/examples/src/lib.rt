@@ -1,4 +1,6 @@
 // Worked examples of one program's orders, proved together; and what two layers say of the symbols of a word.
+#![tactic(auto)]
+
 ghost use Rattle.examples.specs.Examples.{Examples};
 ghost use Rattle.examples.specs.Symbols.{SymbolsAgree};
 

@@ -1,4 +1,6 @@
 // The line-printer code.
+#![tactic(auto)]
+
 ghost use Rattle.std.specs.Prelude.{◌≡◌};
 ghost use Rattle.line_printer.specs.Code.{printed as printed_char};
 

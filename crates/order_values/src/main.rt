@@ -1,4 +1,6 @@
 // Decodes the byte strings of a file of values, and compares what they say with what the file says.
+#![tactic(auto)]
+
 mod names;
 mod text;
 mod value;

@@ -1,4 +1,6 @@
 // The outlook on a program's next order: the order, or the first bound that it breaks.
+#![tactic(auto)]
+
 pub mod bound;
 mod bounds;
 pub mod next;

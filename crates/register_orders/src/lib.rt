@@ -1,4 +1,6 @@
 // The orders that touch registers alone, and OUT's removal of N1.
+#![tactic(auto)]
+
 mod carry;
 mod controls;
 mod copies;

@@ -1,4 +1,6 @@
 // The orders that fetch from and store to the area of a program.
+#![tactic(auto)]
+
 mod addresses;
 mod halves;
 pub mod laws;

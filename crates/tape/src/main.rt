@@ -1,4 +1,6 @@
 // Checks a paper tape and copies it: tape FILE COPY.
+#![tactic(auto)]
+
 mod job;
 mod report;
 

@@ -1,4 +1,6 @@
 // Moves of words between the area of a program and a device on a buffer of any bank.
+#![tactic(auto)]
+
 pub mod laws;
 pub mod moves;
 mod part;

@@ -1,4 +1,6 @@
 // Compares the functions of `word` with values that were computed elsewhere: values.txt, a line for each.
+#![tactic(auto)]
+
 mod calls;
 mod line;
 mod scores;

@@ -8,16 +8,16 @@ use Rattle.order.proofs.decode.decode.Goals as goal
 
 -- the orders without a Q
 pub returns-in-1-to-16 : goal.returns-in-1-to-16
-returns-in-1-to-16 c = decoded _ _ _ _ (alone (Register c.nest-order.result)) c.nest-order.ensures refl refl
+returns-in-1-to-16 c = decoded _ _ _ _ (alone (Register c.nest_order.result)) c.nest_order.ensures refl refl
 
 pub returns-in-17-to-21 : goal.returns-in-17-to-21
-returns-in-17-to-21 c = decoded _ _ _ _ (control c.control-order.result) c.control-order.ensures refl refl
+returns-in-17-to-21 c = decoded _ _ _ _ (control c.control_order.result) c.control_order.ensures refl refl
 
 pub returns-in-22 : goal.returns-in-22
 returns-in-22 c = decoded _ _ _ _ (alone Out) (ap form_of c.in-22.is) refl refl
 
 pub returns-in-64-to-66 : goal.returns-in-64-to-66
-returns-in-64-to-66 c = decoded _ _ _ _ (shift c.shift-by.result) c.shift-by.ensures refl (ap (λ n. Register (ShiftBy c.shift-by.result n)) (signed_back w8 c.args.x c.cast-signed-in-64-to-66.result c.cast-signed-in-64-to-66.ensures c.ranges.x.fits))
+returns-in-64-to-66 c = decoded _ _ _ _ (shift c.shift_by.result) c.shift_by.ensures refl (ap (λ n. Register (ShiftBy c.shift_by.result n)) (signed_back w8 c.args.x c.cast_signed-in-64-to-66.result c.cast_signed-in-64-to-66.ensures c.ranges.x.fits))
 
 pub returns-in-67 : goal.returns-in-67
 returns-in-67 c = decoded _ _ _ _ exit (ap form_of c.in-67.is) refl refl
@@ -26,26 +26,26 @@ pub returns-in-80-to-95 : goal.returns-in-80-to-95
 returns-in-80-to-95 c = decoded _ _ _ _ (jump c.condition.result) c.condition.ensures refl (ap (λ a. Register (Jump c.condition.result a)) c.pair-in-80-to-95.ensures)
 
 pub returns-in-96 : goal.returns-in-96
-returns-in-96 c = decoded _ _ _ _ set_number (ap form_of c.in-96.is) refl (ap (λ i. Register (Set i)) (signed_back w16 c.pair.result c.cast-signed.result c.cast-signed.ensures c.pair.type-inv ∙ ap (to_z w16) c.pair.ensures))
+returns-in-96 c = decoded _ _ _ _ set_number (ap form_of c.in-96.is) refl (ap (λ i. Register (Set i)) (signed_back w16 c.pair.result c.cast_signed.result c.cast_signed.ensures c.pair.type_inv ∙ ap (to_z w16) c.pair.ensures))
 
 -- the orders with q, and with k and q
 pub returns-in-32-to-50 : goal.returns-in-32-to-50
-returns-in-32-to-50 c = q_decoded _ _ _ _ (on_q c.q-order.result) c.q-order.ensures refl (omega arith) refl
+returns-in-32-to-50 c = q_decoded _ _ _ _ (on_q c.q_order.result) c.q_order.ensures refl (omega arith) refl
 
 pub returns-in-51-to-53 : goal.returns-in-51-to-53
-returns-in-51-to-53 c = q_decoded _ _ _ _ (shift_by_c c.shift-by-count.result) c.shift-by-count.ensures refl (omega arith) refl
+returns-in-51-to-53 c = q_decoded _ _ _ _ (shift_by_c c.shift_by_count.result) c.shift_by_count.ensures refl (omega arith) refl
 
 pub returns-in-56-to-61 : goal.returns-in-56-to-61
-returns-in-56-to-61 c = q_decoded _ _ _ _ (transfer c.transfer-order.result) c.transfer-order.ensures refl (omega arith) refl
+returns-in-56-to-61 c = q_decoded _ _ _ _ (transfer c.transfer_order.result) c.transfer_order.ensures refl (omega arith) refl
 
 pub returns-in-104-to-105 : goal.returns-in-104-to-105
-returns-in-104-to-105 c = q_decoded _ _ _ _ (jump_count c.count-test.result) c.count-test.ensures refl (omega arith) (ap (λ a. Register (JumpCount c.count-test.result c.args.x a)) c.pair-in-104-to-105.ensures)
+returns-in-104-to-105 c = q_decoded _ _ _ _ (jump_count c.count_test.result) c.count_test.ensures refl (omega arith) (ap (λ a. Register (JumpCount c.count_test.result c.args.x a)) c.pair-in-104-to-105.ensures)
 
 pub returns-in-112-to-115 : goal.returns-in-112-to-115
-returns-in-112-to-115 c = q_decoded _ _ _ _ (store c.store-order.result) c.store-order.ensures refl (omega arith) (ap (λ a. Store c.store-order.result c.args.x a) c.pair-in-112-to-115.ensures)
+returns-in-112-to-115 c = q_decoded _ _ _ _ (store c.store_order.result) c.store_order.ensures refl (omega arith) (ap (λ a. Store c.store_order.result c.args.x a) c.pair-in-112-to-115.ensures)
 
 pub returns-in-120-to-125 : goal.returns-in-120-to-125
-returns-in-120-to-125 c = kq_decoded _ _ _ _ (indexed c.indexed-order.result) c.indexed-order.ensures refl (omega arith) (omega arith) refl
+returns-in-120-to-125 c = kq_decoded _ _ _ _ (indexed c.indexed_order.result) c.indexed_order.ensures refl (omega arith) (omega arith) refl
 
 pub returns-in-128-to-134 : goal.returns-in-128-to-134
 returns-in-128-to-134 c = kq_decoded _ _ _ _ (copy c.parts.result) c.parts.ensures refl (omega arith) (omega arith) refl
@@ -54,57 +54,57 @@ returns-in-128-to-134 c = kq_decoded _ _ _ _ (copy c.parts.result) c.parts.ensur
 pub returns-in-32-to-53 : goal.returns-in-32-to-53
 returns-in-32-to-53 c = q_refused _ _ _ _ 0x20 19 refl (omega arith) (omega arith) (omega arith)
 
-pub returns-in-32-to-53·2 : goal.returns-in-32-to-53·2
-returns-in-32-to-53·2 c = q_refused _ _ _ _ 0x33 3 refl (omega arith) (omega arith) (omega arith)
+pub returns-in-32-to-53-2 : goal.returns-in-32-to-53-2
+returns-in-32-to-53-2 c = q_refused _ _ _ _ 0x33 3 refl (omega arith) (omega arith) (omega arith)
 
-pub returns-in-32-to-53·3 : goal.returns-in-32-to-53·3
-returns-in-32-to-53·3 c = q_refused _ _ _ _ 0x38 6 refl (omega arith) (omega arith) (omega arith)
+pub returns-in-32-to-53-3 : goal.returns-in-32-to-53-3
+returns-in-32-to-53-3 c = q_refused _ _ _ _ 0x38 6 refl (omega arith) (omega arith) (omega arith)
 
-pub returns-in-32-to-53·4 : goal.returns-in-32-to-53·4
-returns-in-32-to-53·4 c = q_refused _ _ _ _ 0x68 2 refl (omega arith) (omega arith) (omega arith)
+pub returns-in-32-to-53-4 : goal.returns-in-32-to-53-4
+returns-in-32-to-53-4 c = q_refused _ _ _ _ 0x68 2 refl (omega arith) (omega arith) (omega arith)
 
 pub returns-in-112-to-115-2 : goal.returns-in-112-to-115-2
 returns-in-112-to-115-2 c = q_refused _ _ _ _ 0x70 4 refl (omega arith) (omega arith) (omega arith)
 
-pub returns-in-112-to-115-2·2 : goal.returns-in-112-to-115-2·2
-returns-in-112-to-115-2·2 c = kq_refused _ _ _ _ 0x78 6 refl (inr (omega arith)) (omega arith) (omega arith)
+pub returns-in-112-to-115-2-2 : goal.returns-in-112-to-115-2-2
+returns-in-112-to-115-2-2 c = kq_refused _ _ _ _ 0x78 6 refl (inr (omega arith)) (omega arith) (omega arith)
 
-pub returns-in-112-to-115-2·3 : goal.returns-in-112-to-115-2·3
-returns-in-112-to-115-2·3 c = kq_refused _ _ _ _ 0x78 6 refl (inl (omega arith)) (omega arith) (omega arith)
+pub returns-in-112-to-115-2-3 : goal.returns-in-112-to-115-2-3
+returns-in-112-to-115-2-3 c = kq_refused _ _ _ _ 0x78 6 refl (inl (omega arith)) (omega arith) (omega arith)
 
-pub returns-in-112-to-115-2·4 : goal.returns-in-112-to-115-2·4
-returns-in-112-to-115-2·4 c = kq_refused _ _ _ _ 0x80 7 refl (inr (omega arith)) (omega arith) (omega arith)
+pub returns-in-112-to-115-2-4 : goal.returns-in-112-to-115-2-4
+returns-in-112-to-115-2-4 c = kq_refused _ _ _ _ 0x80 7 refl (inr (omega arith)) (omega arith) (omega arith)
 
-pub returns-in-112-to-115-2·5 : goal.returns-in-112-to-115-2·5
-returns-in-112-to-115-2·5 c = kq_refused _ _ _ _ 0x80 7 refl (inl (omega arith)) (omega arith) (omega arith)
+pub returns-in-112-to-115-2-5 : goal.returns-in-112-to-115-2-5
+returns-in-112-to-115-2-5 c = kq_refused _ _ _ _ 0x80 7 refl (inl (omega arith)) (omega arith) (omega arith)
 
 -- the gaps between the orders: from which byte on, and how many
-pub returns-in-default : goal.returns-in-default
-returns-in-default c = unknown _ _ _ _ 0x00 1 refl (omega arith) (omega arith)
+pub returns-in_default : goal.returns-in_default
+returns-in_default c = unknown _ _ _ _ 0x00 1 refl (omega arith) (omega arith)
 
-pub returns-in-default·2 : goal.returns-in-default·2
-returns-in-default·2 c = unknown _ _ _ _ 0x17 9 refl (omega arith) (omega arith)
+pub returns-in_default-2 : goal.returns-in_default-2
+returns-in_default-2 c = unknown _ _ _ _ 0x17 9 refl (omega arith) (omega arith)
 
-pub returns-in-default·3 : goal.returns-in-default·3
-returns-in-default·3 c = unknown _ _ _ _ 0x36 2 refl (omega arith) (omega arith)
+pub returns-in_default-3 : goal.returns-in_default-3
+returns-in_default-3 c = unknown _ _ _ _ 0x36 2 refl (omega arith) (omega arith)
 
-pub returns-in-default·4 : goal.returns-in-default·4
-returns-in-default·4 c = unknown _ _ _ _ 0x3e 2 refl (omega arith) (omega arith)
+pub returns-in_default-4 : goal.returns-in_default-4
+returns-in_default-4 c = unknown _ _ _ _ 0x3e 2 refl (omega arith) (omega arith)
 
-pub returns-in-default·5 : goal.returns-in-default·5
-returns-in-default·5 c = unknown _ _ _ _ 0x44 12 refl (omega arith) (omega arith)
+pub returns-in_default-5 : goal.returns-in_default-5
+returns-in_default-5 c = unknown _ _ _ _ 0x44 12 refl (omega arith) (omega arith)
 
-pub returns-in-default·6 : goal.returns-in-default·6
-returns-in-default·6 c = unknown _ _ _ _ 0x61 7 refl (omega arith) (omega arith)
+pub returns-in_default-6 : goal.returns-in_default-6
+returns-in_default-6 c = unknown _ _ _ _ 0x61 7 refl (omega arith) (omega arith)
 
-pub returns-in-default·7 : goal.returns-in-default·7
-returns-in-default·7 c = unknown _ _ _ _ 0x6a 6 refl (omega arith) (omega arith)
+pub returns-in_default-7 : goal.returns-in_default-7
+returns-in_default-7 c = unknown _ _ _ _ 0x6a 6 refl (omega arith) (omega arith)
 
-pub returns-in-default·8 : goal.returns-in-default·8
-returns-in-default·8 c = unknown _ _ _ _ 0x74 4 refl (omega arith) (omega arith)
+pub returns-in_default-8 : goal.returns-in_default-8
+returns-in_default-8 c = unknown _ _ _ _ 0x74 4 refl (omega arith) (omega arith)
 
-pub returns-in-default·9 : goal.returns-in-default·9
-returns-in-default·9 c = unknown _ _ _ _ 0x7e 2 refl (omega arith) (omega arith)
+pub returns-in_default-9 : goal.returns-in_default-9
+returns-in_default-9 c = unknown _ _ _ _ 0x7e 2 refl (omega arith) (omega arith)
 
-pub returns-in-default·10 : goal.returns-in-default·10
-returns-in-default·10 c = unknown _ _ _ _ 0x87 121 refl (omega arith) (omega arith)
+pub returns-in_default-10 : goal.returns-in_default-10
+returns-in_default-10 c = unknown _ _ _ _ 0x87 121 refl (omega arith) (omega arith)

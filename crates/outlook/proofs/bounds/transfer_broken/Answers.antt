@@ -12,11 +12,11 @@ use Rattle.outlook.proofs.Transfers.{bounds_by, missing, wrong, waits, locked, a
 use Rattle.outlook.proofs.bounds.transfer_broken.Goals as goal
 use Rattle.outlook.proofs.bounds.transfer_broken.Goals.{In-Some}
 
-pub returns-in-default : goal.returns-in-default
-returns-in-default c = λ area ready bank e.
+pub returns-in_default : goal.returns-in_default
+returns-in_default c = λ area ready bank e.
     let lines = lines_of c.args.slot (records c.args.buffers.now.table) bank in
     subst (λ (q : Q). Some NoBuffer ≡ first (bounds_by c.args.order q (length area) lines)) c.q-of-q.ensures
-    (at_buffer c.args.order c.q-of-q.result (length area) lines (not_there c.args.slot c.q-of-q.result.c c.args.buffers.now.table bank c.in-default.ensures))
+    (at_buffer c.args.order c.q-of-q.result (length area) lines (not_there c.args.slot c.q-of-q.result.c c.args.buffers.now.table bank c.in_default.ensures))
 
 -- the tests of the code, at the Q as it has it, as tests on the program's buffers
 module _ (c : In-Some) (area : List ℕ) (bank : ℕ → Option Meaning) (e : length area ≡ c.args.size) where

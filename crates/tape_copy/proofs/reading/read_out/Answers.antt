@@ -53,14 +53,14 @@ unreachable-requires g c =
     let few = few_left (standing b c.args.n) ((g.met.B.Bank.whole c.args.bank.now).each_sound c.args.n) in
     omega (arith, few, c.loop-number.invariant.0.left)
 
-pub returns-in-default : goal.returns-in-default
-returns-in-default g c =
+pub returns-in_default : goal.returns-in_default
+returns-in_default g c =
     let d = g.B.Bank.devices in
     let n = c.args.n in
     let here = d c.loop-number.bank in
     let told = c.in-Err.ensures in
     let sound = (g.met.B.Bank.whole c.loop-number.bank).each_sound n in
-    let end = stopped _ (standing here n) _ _ _ sound c.loop-number.invariant.0 c.in-Err.refusal {rest' = standing (d c.read.new.self) n} c.in-default.not-Damaged told.answer (standing_after read_after here n {b' = d c.read.new.self} told.after) in
+    let end = stopped _ (standing here n) _ _ _ sound c.loop-number.invariant.0 c.in-Err.refusal {rest' = standing (d c.read.new.self) n} c.in_default.not-Damaged told.answer (standing_after read_after here n {b' = d c.read.new.self} told.after) in
     record {
       answer = (end.symbols, end.damaged, end.why);
       after = beside_all n (d c.args.bank.now) (d c.read.new.self) _ (beside_more read_after n (d c.args.bank.now) here {b' = d c.read.new.self} told.after c.loop-number.invariant.1) end.out;

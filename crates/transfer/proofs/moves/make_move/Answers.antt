@@ -6,11 +6,11 @@ use Rattle.transfer.proofs.Effects.{outside}
 use Rattle.transfer.proofs.Confined.{confined}
 use Rattle.transfer.proofs.moves.make_move.Goals as goal
 
-pub returns-in-default : goal.returns-in-default
-returns-in-default g c =
+pub returns-in_default : goal.returns-in_default
+returns-in_default g c =
     let b = g.B.Bank.devices c.args.bank.now in
     let past : length c.args.area.now ≤ c.args.x.m = omega arith in
-    let e = outside c.args.x.transfer c.args.x.i c.args.x.m c.args.area.now (standing b c.args.n) past c.in-default.not-Seek in
+    let e = outside c.args.x.transfer c.args.x.i c.args.x.m c.args.area.now (standing b c.args.n) past c.in_default.not-Seek in
     record {
       area = sym (ap (λ (y : Effect). y.area) e);
       moved = sym (ap (λ (y : Effect). y.moved) e);

@@ -8,11 +8,11 @@ pub loop-k-init : goal.loop-k-init
 loop-k-init c = any_none _
 
 pub loop-k-preserved : goal.loop-k-preserved
-loop-k-preserved c = any_more (locks_here c.args.slot (records c.args.self.now.table) c.args.first c.args.last) c.loop-k.k c.loop-k.invariant (sym c.if-locks-for.ensures)
+loop-k-preserved c = any_more (locks_here c.args.slot (records c.args.self.now.table) c.args.first c.args.last) c.loop-k.k c.loop-k.invariant (sym c.if-locks_for.ensures)
 
-pub returns-then-locks-for : goal.returns-then-locks-for
-returns-then-locks-for c =
-    sym (any_found 16 (locks_here c.args.slot (records c.args.self.now.table) c.args.first c.args.last) c.loop-k.k c.loop-k-test.true (sym c.if-locks-for.ensures))
+pub returns-then-locks_for : goal.returns-then-locks_for
+returns-then-locks_for c =
+    sym (any_found 16 (locks_here c.args.slot (records c.args.self.now.table) c.args.first c.args.last) c.loop-k.k c.loop-k-test.true (sym c.if-locks_for.ensures))
     ∙ by_words c.args.slot (records c.args.self.now.table) c.args.first c.args.last
 
 pub returns : goal.returns

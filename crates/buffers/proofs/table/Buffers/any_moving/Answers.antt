@@ -7,10 +7,10 @@ pub loop-k-init : goal.loop-k-init
 loop-k-init c = any_none _
 
 pub loop-k-preserved : goal.loop-k-preserved
-loop-k-preserved c = any_more (λ k. is_moving (records c.args.self.now.table k).work) c.loop-k.k c.loop-k.invariant (sym c.if-is-moving.ensures)
+loop-k-preserved c = any_more (λ k. is_moving (records c.args.self.now.table k).work) c.loop-k.k c.loop-k.invariant (sym c.if-is_moving.ensures)
 
-pub returns-then-is-moving : goal.returns-then-is-moving
-returns-then-is-moving c = sym (any_found 16 (λ k. is_moving (records c.args.self.now.table k).work) c.loop-k.k c.loop-k-test.true (sym c.if-is-moving.ensures))
+pub returns-then-is_moving : goal.returns-then-is_moving
+returns-then-is_moving c = sym (any_found 16 (λ k. is_moving (records c.args.self.now.table k).work) c.loop-k.k c.loop-k-test.true (sym c.if-is_moving.ensures))
 
 pub returns : goal.returns
 returns c = any_all 16 (λ k. is_moving (records c.args.self.now.table k).work) c.loop-k.k (omega arith) c.loop-k.invariant

@@ -11,7 +11,7 @@ loop-k-init c = refl
 
 pub loop-k-preserved : goal.loop-k-preserved
 loop-k-preserved c =
-    mapped_more (released c.args.slot) c.args.self.now.table c.loop-k.k free (omega (arith, c.args.self.now.sixteen)) c.loop-k.invariant c.released-by.ensures
+    mapped_more (released c.args.slot) c.args.self.now.table c.loop-k.k free (omega (arith, c.args.self.now.sixteen)) c.loop-k.invariant c.released_by.ensures
 
 all : (c : After-loop-k) → c.loop-k.table ≡ map (released c.args.slot) c.args.self.now.table
 all c = mapped_all (released c.args.slot) c.args.self.now.table c.loop-k.k (omega (arith, c.args.self.now.sixteen)) c.loop-k.invariant
@@ -19,8 +19,8 @@ all c = mapped_all (released c.args.slot) c.args.self.now.table c.loop-k.k (omeg
 pub returns : goal.returns
 returns c = mapped_all (released c.args.slot) c.args.self.now.table c.loop-k.k (omega (arith, c.args.self.now.sixteen)) c.loop-k.invariant
 
-pub invariant-of-self : goal.invariant-of-self
-invariant-of-self c = (
-  ap length (all c) ∙ length-map c.args.self.now.table (released c.args.slot) ∙ c.args.self.now.sixteen,
-  ((λ e. subst Quiet (sym (all c)) (released_quiet c.args.slot c.args.self.now.table (c.args.self.now.quiet e))), tt),
-)
+pub invariant_of-self : goal.invariant_of-self
+invariant_of-self c = record {
+  sixteen = ap length (all c) ∙ length-map c.args.self.now.table (released c.args.slot) ∙ c.args.self.now.sixteen;
+  quiet = λ e. subst Quiet (sym (all c)) (released_quiet c.args.slot c.args.self.now.table (c.args.self.now.quiet e));
+}

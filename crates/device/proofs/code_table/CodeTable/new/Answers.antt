@@ -29,11 +29,11 @@ loop-s-preserved c =
     )
 
 -- a symbol that does not stand there once
-pub returns-in-default : goal.returns-in-default
-returns-in-default c =
+pub returns-in_default : goal.returns-in_default
+returns-in_default c =
     let table = c.args.shown in
     let s = c.loop-s.s in
-    let not_once : occurs s table ≡ 1 → ⊥ = c.in-default.ensures in
+    let not_once : occurs s table ≡ 1 → ⊥ = c.in_default.ensures in
     sym (cond-false (fit table) _ _ (each_false 64 (λ k. eqb (occurs k table) 1) s (omega arith) (ne_eqb (occurs s table) 1 not_once)))
 
 pub returns : goal.returns
@@ -41,9 +41,15 @@ returns c =
     let table = c.args.shown in
     sym (cond-true (fit table) _ _ (each_true 64 (λ k. eqb (occurs k table) 1) (λ k h. eq-eqb (occurs k table) 1 (c.loop-s.invariant.2 k (omega arith)).0)))
 
-pub invariant-of-result : goal.invariant-of-result
-invariant-of-result c =
+pub invariant_of-result : goal.invariant_of-result
+invariant_of-result c =
     let all = c.loop-s.invariant.2 in
     let long : length c.args.shown ≡ 64 = search rules in
     let once : (s : ℕ) → s < 64 → occurs s c.args.shown ≡ 1 = λ s h. (all s (omega arith)).0 in
-    (long, (c.loop-s.invariant.0, (once_below 64 c.args.shown (omega arith) long once, (c.loop-s.invariant.1, ((λ s h. (all s (omega arith)).1), tt)))))
+    record {
+      long = long;
+      back_long = c.loop-s.invariant.0;
+      symbols = once_below 64 c.args.shown (omega arith) long once;
+      back_symbols = c.loop-s.invariant.1;
+      inverse = λ s h. (all s (omega arith)).1;
+    }

@@ -2,8 +2,8 @@ use Rattle.std.proofs.Common.{rules}
 use Rattle.machine.proofs.machine.Machine.step.Goals as goal
 
 -- src/machine/turns.rt:62:5
-pub returns-in-default-Some-default : goal.returns-in-default-Some-default
-returns-in-default-Some-default g c = ?
+pub returns-in_default-Some-default : goal.returns-in_default-Some-default
+returns-in_default-Some-default g c = ?
 
 -- src/machine/turns.rt:62:5
 pub returns-in-None-None-default : goal.returns-in-None-None-default

@@ -6,8 +6,8 @@ use Rattle.device.proofs.Cells.{below_push}
 use Rattle.units.proofs.Cells.{cell_below}
 use Rattle.units.proofs.reader.TapeReader.fill.Goals as goal
 
-pub invariant-of-self-in-loop-frame : goal.invariant-of-self-in-loop-frame
-invariant-of-self-in-loop-frame c = search (rules, below_push, cell_below)
+pub invariant_of-self-in-loop-frame : goal.invariant_of-self-in-loop-frame
+invariant_of-self-in-loop-frame c = search (rules, below_push, cell_below)
 
 pub loop-frame-preserved : goal.loop-frame-preserved
 loop-frame-preserved c =

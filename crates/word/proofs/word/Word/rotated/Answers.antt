@@ -4,8 +4,8 @@ use lib.Pow.{mod-mod-pow}
 use Rattle.word.proofs.Rotate.{rotate}
 use Rattle.word.proofs.word.Word.rotated.Goals as goal
 
-pub invariant-of-result : goal.invariant-of-result
-invariant-of-result c = search (rules, or_lt 48)
+pub invariant_of-result : goal.invariant_of-result
+invariant_of-result c = search (rules, or_lt 48)
 
 pub returns : goal.returns
 returns c =

@@ -16,5 +16,5 @@ right (negsuc l) k x h e within below =
 pub returns-else-length-ge0 : goal.returns-else-length-ge0
 returns-else-length-ge0 c =
     let x = c.args.self.bits in
-    let turned = right c.args.length c.unsigned-abs-by.result x (omega (arith, ints)) (omega (arith, ints)) (omega arith) (omega arith) in
+    let turned = right c.args.length c.unsigned_abs-by.result x (omega (arith, ints)) (omega (arith, ints)) (omega arith) (omega arith) in
     cc

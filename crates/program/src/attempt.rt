@@ -22,8 +22,8 @@ pub fn attempt<B: Bank>(
     buffers: &mut Buffers,
     bank: &mut B,
 ) -> Outcome
-    ensures own { (ready : Bool) → attempted (own_of slot regs.old area.old ready (records buffers.old.table) (standing (devices bank.old))) ≡ (own_of slot regs.new area.new ready (records buffers.new.table) (standing (devices bank.new)), told result) }
-    ensures kept { Kept slot (records buffers.old.table) (records buffers.new.table) (standing (devices bank.old)) (standing (devices bank.new)) }
+    ensures own { (ready : Bool) → attempted (own_of slot regs.old area.old ready (records buffers.old.table) (standing (B.devices bank.old))) ≡ (own_of slot regs.new area.new ready (records buffers.new.table) (standing (B.devices bank.new)), told result) }
+    ensures kept { Kept slot (records buffers.old.table) (records buffers.new.table) (standing (B.devices bank.old)) (standing (B.devices bank.new)) }
 {
     match outlook(slot, regs, area, buffers) {
         Err(bound) => Outcome::Broke(bound),

@@ -28,8 +28,8 @@ pub fn carry_next<B: Bank>(
     bank: &mut B,
 ) -> Outcome
     requires { (ready : Bool) (bank : ℕ → Option Meaning) → Ok next ≡ foreseen (own_of slot regs.old area.old ready (records buffers.old.table) bank) }
-    ensures own { (ready : Bool) → carried next (own_of slot regs.old area.old ready (records buffers.old.table) (standing (devices bank.old))) ≡ (own_of slot regs.new area.new ready (records buffers.new.table) (standing (devices bank.new)), told result) }
-    ensures kept { Kept slot (records buffers.old.table) (records buffers.new.table) (standing (devices bank.old)) (standing (devices bank.new)) }
+    ensures own { (ready : Bool) → carried next (own_of slot regs.old area.old ready (records buffers.old.table) (standing (B.devices bank.old))) ≡ (own_of slot regs.new area.new ready (records buffers.new.table) (standing (B.devices bank.new)), told result) }
+    ensures kept { Kept slot (records buffers.old.table) (records buffers.new.table) (standing (B.devices bank.old)) (standing (B.devices bank.new)) }
 {
     match next.order {
         Order::Register(o) => {

@@ -54,8 +54,8 @@ pub(crate) fn do_move<B: Bank>(
 ) -> Outcome
     requires within { q.c ≤ 15 }
     requires held { holds slot (records buffers.old.table q.c) ≡ true }
-    ensures own { (ready : Bool) → moved_by kind q place (own_of slot regs.old area.old ready (records buffers.old.table) (standing (devices bank.old))) ≡ (own_of slot regs.new area.new ready (records buffers.new.table) (standing (devices bank.new)), told result) }
-    ensures kept { Kept slot (records buffers.old.table) (records buffers.new.table) (standing (devices bank.old)) (standing (devices bank.new)) }
+    ensures own { (ready : Bool) → moved_by kind q place (own_of slot regs.old area.old ready (records buffers.old.table) (standing (B.devices bank.old))) ≡ (own_of slot regs.new area.new ready (records buffers.new.table) (standing (B.devices bank.new)), told result) }
+    ensures kept { Kept slot (records buffers.old.table) (records buffers.new.table) (standing (B.devices bank.old)) (standing (B.devices bank.new)) }
 {
     let n = q.c as u8;
     let x = Move {

@@ -9,6 +9,7 @@ use word::word::Word;
 mod changes;
 mod readers;
 
+#[derive(Clone, Copy)]
 pub struct Registers {
     nest: Pile<Word>,
     links: Pile<u16>,
@@ -17,8 +18,6 @@ pub struct Registers {
     test: bool,
     place: u16,
 }
-
-impl Copy for Registers {}
 
 impl Registers {
     // Nest and links empty, all else zero.

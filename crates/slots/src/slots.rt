@@ -23,6 +23,7 @@ pub struct Area {
 }
 
 // A slot's record. Where it is empty, base, size and registers say nothing.
+#[derive(Clone, Copy)]
 pub struct Slot {
     state: State,
     base: u32,
@@ -30,13 +31,10 @@ pub struct Slot {
     registers: Registers,
 }
 
-impl Copy for Slot {}
-
+#[derive(Clone, Copy)]
 pub struct Slots {
     table: [Slot; 4],
 }
-
-impl Copy for Slots {}
 
 // What is ahead of the program in a slot.
 #[derive(Clone, Copy)]

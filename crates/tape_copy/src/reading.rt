@@ -21,8 +21,8 @@ pub struct Reading {
 
 // Reads buffer n up to a refusal other than "damaged". Want of memory is found before the first cell is read.
 pub fn read_out<B: Bank>(heap: Global, bank: &mut B, n: u8) -> Result<Reading, AllocError>
-    ensures answer { IfOk result (λ x. (x.symbols.items ≡ sound_cells (unread (standing (devices bank.old) n))) × (x.damaged.items ≡ damaged_cells 0 (unread (standing (devices bank.old) n))) × (words x.stop ≡ stop_of (standing (devices bank.old) n))) }
-    ensures after { MatchResult result (λ _. devices bank.new ≡ slice_set (devices bank.old) n (run_out (standing (devices bank.old) n))) (λ _. devices bank.new ≡ devices bank.old) }
+    ensures answer { IfOk result (λ x. (x.symbols.items ≡ sound_cells (unread (standing (B.devices bank.old) n))) × (x.damaged.items ≡ damaged_cells 0 (unread (standing (B.devices bank.old) n))) × (words x.stop ≡ stop_of (standing (B.devices bank.old) n))) }
+    ensures after { MatchResult result (λ _. B.devices bank.new ≡ slice_set (B.devices bank.old) n (run_out (standing (B.devices bank.old) n))) (λ _. B.devices bank.new ≡ B.devices bank.old) }
 {
     let mut symbols = Vec::with_capacity(heap, 4096)?;
     let mut damaged = Vec::with_capacity(heap, 4096)?;

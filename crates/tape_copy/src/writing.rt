@@ -17,9 +17,9 @@ pub struct WriteResult {
 
 // Writes symbols to buffer n, up to the first refusal.
 pub fn write_in<B: Bank>(bank: &mut B, n: u8, symbols: &[u8]) -> WriteResult
-    ensures count { result.count ≡ (written symbols.now (standing (devices bank.old) n)).count }
-    ensures refusal { option_map words result.refusal ≡ (written symbols.now (standing (devices bank.old) n)).refusal }
-    ensures after { devices bank.new ≡ slice_set (devices bank.old) n (written symbols.now (standing (devices bank.old) n)).device }
+    ensures count { result.count ≡ (written symbols.now (standing (B.devices bank.old) n)).count }
+    ensures refusal { option_map words result.refusal ≡ (written symbols.now (standing (B.devices bank.old) n)).refusal }
+    ensures after { B.devices bank.new ≡ slice_set (B.devices bank.old) n (written symbols.now (standing (B.devices bank.old) n)).device }
 {
     for (i, symbol) in symbols.iter().enumerate() {
         match bank.write(n, *symbol) {

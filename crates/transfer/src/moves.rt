@@ -39,8 +39,8 @@ pub struct Moved {
 // Seeks a cell of the device on buffer n.
 fn seek_cell<B: Bank>(bank: &mut B, n: u8, cell: u16) -> Moved
     ensures moved { result.symbols ≡ 0 }
-    ensures refused { option_map words result.refusal ≡ error_of (answer_of (λ m. seek_answer m cell) (standing (devices bank.old) n)) }
-    ensures after { devices bank.new ≡ slice_set (devices bank.old) n (after_of (λ m. seek_after m cell) (standing (devices bank.old) n)) }
+    ensures refused { option_map words result.refusal ≡ error_of (answer_of (λ m. seek_answer m cell) (standing (B.devices bank.old) n)) }
+    ensures after { B.devices bank.new ≡ slice_set (B.devices bank.old) n (after_of (λ m. seek_after m cell) (standing (B.devices bank.old) n)) }
 {
     match bank.seek(n, cell) {
         Ok(()) => Moved {
@@ -56,10 +56,10 @@ fn seek_cell<B: Bank>(bank: &mut B, n: u8, cell: u16) -> Moved
 
 // Makes a move between an area and the device on buffer n. Where words to move lie outside the area, none is moved.
 pub fn make_move<B: Bank>(x: Move, bank: &mut B, n: u8, area: &mut [u64]) -> Moved
-    ensures area { area.new ≡ (effect x area.old (standing (devices bank.old) n)).area }
-    ensures moved { result.symbols ≡ (effect x area.old (standing (devices bank.old) n)).moved }
-    ensures refused { option_map words result.refusal ≡ (effect x area.old (standing (devices bank.old) n)).refusal }
-    ensures after { devices bank.new ≡ slice_set (devices bank.old) n (effect x area.old (standing (devices bank.old) n)).device }
+    ensures area { area.new ≡ (effect x area.old (standing (B.devices bank.old) n)).area }
+    ensures moved { result.symbols ≡ (effect x area.old (standing (B.devices bank.old) n)).moved }
+    ensures refused { option_map words result.refusal ≡ (effect x area.old (standing (B.devices bank.old) n)).refusal }
+    ensures after { B.devices bank.new ≡ slice_set (B.devices bank.old) n (effect x area.old (standing (B.devices bank.old) n)).device }
     ensures words { Confined x area.old area.new }
 {
     match x.transfer {
@@ -75,9 +75,9 @@ pub fn make_move<B: Bank>(x: Move, bank: &mut B, n: u8, area: &mut [u64]) -> Mov
 
 // Makes moves one after another between an area and the device on buffer n, whatever each comes to.
 pub fn make_moves<B: Bank>(moves: &[Move], bank: &mut B, n: u8, area: &mut [u64])
-    ensures area { area.new ≡ (in_turn moves.now area.old (standing (devices bank.old) n)).area }
-    ensures after { devices bank.new ≡ slice_set (devices bank.old) n (in_turn moves.now area.old (standing (devices bank.old) n)).device }
-    ensures keeps { Keeps moves.now (standing (devices bank.old) n) area.old area.new }
+    ensures area { area.new ≡ (in_turn moves.now area.old (standing (B.devices bank.old) n)).area }
+    ensures after { B.devices bank.new ≡ slice_set (B.devices bank.old) n (in_turn moves.now area.old (standing (B.devices bank.old) n)).device }
+    ensures keeps { Keeps moves.now (standing (B.devices bank.old) n) area.old area.new }
 {
     for x in moves {
         let _ = make_move(*x, bank, n, area);

@@ -18,10 +18,10 @@ pub(crate) struct Gathered {
 
 // Reads at most eight symbols from buffer n into a word, up to End Message where `ends`.
 fn read_word<B: Bank>(bank: &mut B, n: u8, ends: bool) -> Gathered
-    ensures word { result.word ≡ packed 8 (gather ends 8 (standing (devices bank.old) n)).symbols }
-    ensures moved { result.part.moved ≡ length (gather ends 8 (standing (devices bank.old) n)).symbols }
-    ensures stop { stop_of result.part.stop ≡ (gather ends 8 (standing (devices bank.old) n)).stop }
-    ensures after { devices bank.new ≡ slice_set (devices bank.old) n (gather ends 8 (standing (devices bank.old) n)).device }
+    ensures word { result.word ≡ packed 8 (gather ends 8 (standing (B.devices bank.old) n)).symbols }
+    ensures moved { result.part.moved ≡ length (gather ends 8 (standing (B.devices bank.old) n)).symbols }
+    ensures stop { stop_of result.part.stop ≡ (gather ends 8 (standing (B.devices bank.old) n)).stop }
+    ensures after { B.devices bank.new ≡ slice_set (B.devices bank.old) n (gather ends 8 (standing (B.devices bank.old) n)).device }
 {
     let mut word = 0;
     for k in (0..8u8).rev() {
@@ -58,10 +58,10 @@ fn read_word<B: Bank>(bank: &mut B, n: u8, ends: bool) -> Gathered
 
 // Reads a word into a cell of an area; with no symbol the cell stays.
 fn read_cell<B: Bank>(bank: &mut B, n: u8, ends: bool, cell: &mut u64) -> Part
-    ensures cell { cell.new ≡ filled cell.old (gather ends 8 (standing (devices bank.old) n)).symbols }
-    ensures moved { result.moved ≡ length (gather ends 8 (standing (devices bank.old) n)).symbols }
-    ensures stop { stop_of result.stop ≡ (gather ends 8 (standing (devices bank.old) n)).stop }
-    ensures after { devices bank.new ≡ slice_set (devices bank.old) n (gather ends 8 (standing (devices bank.old) n)).device }
+    ensures cell { cell.new ≡ filled cell.old (gather ends 8 (standing (B.devices bank.old) n)).symbols }
+    ensures moved { result.moved ≡ length (gather ends 8 (standing (B.devices bank.old) n)).symbols }
+    ensures stop { stop_of result.stop ≡ (gather ends 8 (standing (B.devices bank.old) n)).stop }
+    ensures after { B.devices bank.new ≡ slice_set (B.devices bank.old) n (gather ends 8 (standing (B.devices bank.old) n)).device }
 {
     let got = read_word(bank, n, ends);
     if got.part.moved > 0 {
@@ -80,10 +80,10 @@ pub(crate) fn read_words<B: Bank>(
     last: u16,
 ) -> Moved
     requires { last < length area.old }
-    ensures area { area.new ≡ stored (last + 1 - first) first (gather ends (8 * (last + 1 - first)) (standing (devices bank.old) n)).symbols area.old }
-    ensures moved { result.symbols ≡ length (gather ends (8 * (last + 1 - first)) (standing (devices bank.old) n)).symbols }
-    ensures refused { option_map words result.refusal ≡ why (gather ends (8 * (last + 1 - first)) (standing (devices bank.old) n)).stop }
-    ensures after { devices bank.new ≡ slice_set (devices bank.old) n (gather ends (8 * (last + 1 - first)) (standing (devices bank.old) n)).device }
+    ensures area { area.new ≡ stored (last + 1 - first) first (gather ends (8 * (last + 1 - first)) (standing (B.devices bank.old) n)).symbols area.old }
+    ensures moved { result.symbols ≡ length (gather ends (8 * (last + 1 - first)) (standing (B.devices bank.old) n)).symbols }
+    ensures refused { option_map words result.refusal ≡ why (gather ends (8 * (last + 1 - first)) (standing (B.devices bank.old) n)).stop }
+    ensures after { B.devices bank.new ≡ slice_set (B.devices bank.old) n (gather ends (8 * (last + 1 - first)) (standing (B.devices bank.old) n)).device }
 {
     let mut symbols = 0;
     for a in usize::from(first)..usize::from(last) + 1 {

@@ -11,9 +11,9 @@ use device::bank::Bank;
 
 // Writes the eight symbols of a word to buffer n, highest first, up to End Message where `ends`.
 fn write_word<B: Bank>(bank: &mut B, n: u8, ends: bool, word: u64) -> Part
-    ensures moved { result.moved ≡ (send ends (unpacked 8 word) (standing (devices bank.old) n)).moved }
-    ensures stop { stop_of result.stop ≡ (send ends (unpacked 8 word) (standing (devices bank.old) n)).stop }
-    ensures after { devices bank.new ≡ slice_set (devices bank.old) n (send ends (unpacked 8 word) (standing (devices bank.old) n)).device }
+    ensures moved { result.moved ≡ (send ends (unpacked 8 word) (standing (B.devices bank.old) n)).moved }
+    ensures stop { stop_of result.stop ≡ (send ends (unpacked 8 word) (standing (B.devices bank.old) n)).stop }
+    ensures after { B.devices bank.new ≡ slice_set (B.devices bank.old) n (send ends (unpacked 8 word) (standing (B.devices bank.old) n)).device }
 {
     for k in (0..8u8).rev() {
         let symbol = ((word >> (6 * k)) % 64) as u8;
@@ -48,9 +48,9 @@ pub(crate) fn write_words<B: Bank>(
     last: u16,
 ) -> Moved
     requires { last < length area.now }
-    ensures moved { result.symbols ≡ (send ends (spread (last + 1 - first) first area.now) (standing (devices bank.old) n)).moved }
-    ensures refused { option_map words result.refusal ≡ why (send ends (spread (last + 1 - first) first area.now) (standing (devices bank.old) n)).stop }
-    ensures after { devices bank.new ≡ slice_set (devices bank.old) n (send ends (spread (last + 1 - first) first area.now) (standing (devices bank.old) n)).device }
+    ensures moved { result.symbols ≡ (send ends (spread (last + 1 - first) first area.now) (standing (B.devices bank.old) n)).moved }
+    ensures refused { option_map words result.refusal ≡ why (send ends (spread (last + 1 - first) first area.now) (standing (B.devices bank.old) n)).stop }
+    ensures after { B.devices bank.new ≡ slice_set (B.devices bank.old) n (send ends (spread (last + 1 - first) first area.now) (standing (B.devices bank.old) n)).device }
 {
     let mut symbols = 0;
     for a in usize::from(first)..usize::from(last) + 1 {

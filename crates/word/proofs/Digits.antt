@@ -1,6 +1,6 @@
 -- Eight digits to the base 64 and the number that they make.
 use Rattle.std.proofs.Common.{◌≡◌, ℕ, ◌+◌, ◌*◌, ◌/◌, ◌%◌, ◌^◌, ◌<◌, List, [], ◌∷◌, length, arith}
-use Rattle.std.specs.List.{AllByRecursion as All}
+use Rattle.std.specs.List.{AllByRecursion}
 use Rattle.word.specs.Symbols.{packed, symbols_of}
 
 -- each digit joined to what stands above it
@@ -31,7 +31,7 @@ module _ (a b c d e f g h x : ℕ) (p : a < 64) (q : b < 64) (r : c < 64) (s : d
       let e7 : x % 64 ≡ h = omega arith in
       cc
 
-pub symbols_packed : (xs : List ℕ) → length xs ≡ 8 → All (λ s. s < 64) xs → symbols_of (packed xs) ≡ xs
+pub symbols_packed : (xs : List ℕ) → length xs ≡ 8 → AllByRecursion (λ s. s < 64) xs → symbols_of (packed xs) ≡ xs
 symbols_packed [] long all = absurd (omega arith)
 symbols_packed (a ∷ []) long all = absurd (omega arith)
 symbols_packed (a ∷ b ∷ []) long all = absurd (omega arith)

@@ -3,7 +3,7 @@
 --   packed xs     the word that symbols make, each of them taken modulo 64
 --   RoundTrips    parting and packing undo each other
 use Rattle.std.specs.Prelude.{◌≡◌, ℕ, ◌+◌, ◌*◌, ◌/◌, ◌%◌, ◌^◌, ◌<◌, List, [], ◌∷◌, length, fold}
-use Rattle.std.specs.List.{AllByRecursion as All}
+use Rattle.std.specs.List.{AllByRecursion}
 
 abbrev pub symbols_of : ℕ → List ℕ
 symbols_of x =
@@ -15,4 +15,4 @@ packed xs = fold (λ a s. a * 64 + s % 64) 0 xs
 
 pub record RoundTrips : Type 0 where
   pub word : (x : ℕ) → x < 2 ^ 48 → packed (symbols_of x) ≡ x
-  pub symbols : (xs : List ℕ) → length xs ≡ 8 → All (λ s. s < 64) xs → symbols_of (packed xs) ≡ xs
+  pub symbols : (xs : List ℕ) → length xs ≡ 8 → AllByRecursion (λ s. s < 64) xs → symbols_of (packed xs) ≡ xs

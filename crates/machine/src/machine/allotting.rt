@@ -14,7 +14,7 @@ use host::refusal::Refusal;
 impl<B: Bank> Machine<B> {
     // Where the head of the device on a buffer is; nothing without a device.
     fn head(&self, buffer: u8) -> Option<u16>
-        ensures { is_some result ≡ is_some (standing (devices self.now.bank) buffer) }
+        ensures { is_some result ≡ is_some (standing (B.devices self.now.bank) buffer) }
     {
         match self.bank.head(buffer) {
             Ok(head) => Some(head),
@@ -25,7 +25,7 @@ impl<B: Bank> Machine<B> {
     // The first check of an allotment that fails. Whose the buffer is and what stands on it are taken apart here.
     fn allot_refusal(&self, slot: u8, buffer: u8) -> Option<Refusal>
         ensures within { result ≡ None → buffer < 16 }
-        ensures first { (store : List ℕ) → first_number result ≡ refusal (allot slot buffer) (shown devices store self.now) }
+        ensures first { (store : List ℕ) → first_number result ≡ refusal (allot slot buffer) (shown B.devices store self.now) }
     {
         if slot > 3 {
             return Some(Refusal::SlotOver3);
@@ -45,7 +45,7 @@ impl<B: Bank> Machine<B> {
 
     // Gives a slot a buffer.
     pub fn allot(&mut self, _control: &Control, slot: u8, buffer: u8) -> Result<(), Refusal>
-        ensures { (store : List ℕ) → ◌≡◌ (shown devices store self.new, answered result) (perform (allot slot buffer) (shown devices store self.old)) }
+        ensures { (store : List ℕ) → ◌≡◌ (shown B.devices store self.new, answered result) (perform (allot slot buffer) (shown B.devices store self.old)) }
     {
         match self.allot_refusal(slot, buffer) {
             Some(refusal) => Err(refusal),
@@ -59,7 +59,7 @@ impl<B: Bank> Machine<B> {
     // The first check of an end that fails.
     fn end_refusal(&self, buffer: u8) -> Option<Refusal>
         ensures within { result ≡ None → buffer < 16 }
-        ensures first { (store : List ℕ) → first_number result ≡ refusal (end buffer) (shown devices store self.now) }
+        ensures first { (store : List ℕ) → first_number result ≡ refusal (end buffer) (shown B.devices store self.now) }
     {
         if buffer > 15 {
             return Some(Refusal::BufferOver15);
@@ -72,7 +72,7 @@ impl<B: Bank> Machine<B> {
 
     // Makes a buffer idle, and so unlocks its groups.
     pub fn end(&mut self, _control: &Control, buffer: u8) -> Result<(), Refusal>
-        ensures { (store : List ℕ) → ◌≡◌ (shown devices store self.new, answered result) (perform (end buffer) (shown devices store self.old)) }
+        ensures { (store : List ℕ) → ◌≡◌ (shown B.devices store self.new, answered result) (perform (end buffer) (shown B.devices store self.old)) }
     {
         match self.end_refusal(buffer) {
             Some(refusal) => Err(refusal),
@@ -86,7 +86,7 @@ impl<B: Bank> Machine<B> {
     // The first check of a dismissal that fails.
     fn dismiss_refusal(&self, slot: u8) -> Option<Refusal>
         ensures within { result ≡ None → slot < 4 }
-        ensures first { (store : List ℕ) → first_number result ≡ refusal (dismiss slot) (shown devices store self.now) }
+        ensures first { (store : List ℕ) → first_number result ≡ refusal (dismiss slot) (shown B.devices store self.now) }
     {
         if slot > 3 {
             return Some(Refusal::SlotOver3);
@@ -102,7 +102,7 @@ impl<B: Bank> Machine<B> {
 
     // Frees a slot and its buffers; the words of its area stay.
     pub fn dismiss(&mut self, _control: &Control, slot: u8) -> Result<(), Refusal>
-        ensures { (store : List ℕ) → ◌≡◌ (shown devices store self.new, answered result) (perform (dismiss slot) (shown devices store self.old)) }
+        ensures { (store : List ℕ) → ◌≡◌ (shown B.devices store self.new, answered result) (perform (dismiss slot) (shown B.devices store self.old)) }
     {
         match self.dismiss_refusal(slot) {
             Some(refusal) => Err(refusal),

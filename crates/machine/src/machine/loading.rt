@@ -22,7 +22,7 @@ impl<B: Bank> Machine<B> {
         image: &[u8],
     ) -> Option<Refusal>
         ensures within { result ≡ None → (slot < 4) × (base + size ≤ words) × (base + size ≤ 32768) }
-        ensures first { (store : List ℕ) → length store ≡ words → first_number result ≡ refusal (load slot base size image.now) (shown devices store self.now) }
+        ensures first { (store : List ℕ) → length store ≡ words → first_number result ≡ refusal (load slot base size image.now) (shown B.devices store self.now) }
     {
         if slot > 3 {
             return Some(Refusal::SlotOver3);
@@ -55,7 +55,7 @@ impl<B: Bank> Machine<B> {
         size: u32,
         image: &[u8],
     ) -> Result<(), Refusal>
-        ensures { ◌≡◌ (shown devices store.new self.new, answered result) (perform (load slot base size image.now) (shown devices store.old self.old)) }
+        ensures { ◌≡◌ (shown B.devices store.new self.new, answered result) (perform (load slot base size image.now) (shown B.devices store.old self.old)) }
     {
         match self.load_refusal(store.len(), slot, base, size, image) {
             Some(refusal) => Err(refusal),

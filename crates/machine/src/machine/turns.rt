@@ -34,7 +34,7 @@ impl<B: Bank> Machine<B> {
     // What an order at a place came to is noted in its turn, and stops its program where it has to.
     fn settle(&mut self, turn: &mut Turn, place: u16, outcome: Outcome)
         requires { turn.old.slot < 4 }
-        ensures { (store : List ℕ) → Settled place (told outcome) (token_of turn.old) (token_of turn.new) (shown devices store self.old) (shown devices store self.new) }
+        ensures { (store : List ℕ) → Settled place (told outcome) (token_of turn.old) (token_of turn.new) (shown B.devices store self.old) (shown B.devices store self.new) }
     {
         if stops(outcome) {
             self.slots.stop(turn.slot);
@@ -52,7 +52,7 @@ impl<B: Bank> Machine<B> {
 
     // One step of a turn: the cause that it has again, a refusal, or the order at its program's place.
     pub fn step(&mut self, turn: &mut Turn, store: &mut [u64]) -> Result<Option<Ending>, Refusal>
-        ensures { step_left devices store.new self.new turn.new result ≡ stepped (token_of turn.old) (shown devices store.old self.old) }
+        ensures { step_left B.devices store.new self.new turn.new result ≡ stepped (token_of turn.old) (shown B.devices store.old self.old) }
     {
         let slot = turn.slot;
         let place = self.slots.place(slot);
@@ -82,7 +82,7 @@ impl<B: Bank> Machine<B> {
 
     // Steps a turn n times, or up to its first cause.
     fn run(&mut self, turn: &mut Turn, store: &mut [u64], n: u32)
-        ensures { ◌≡◌ (shown devices store.new self.new, token_of turn.new) (steps n (token_of turn.old) (shown devices store.old self.old)) }
+        ensures { ◌≡◌ (shown B.devices store.new self.new, token_of turn.new) (steps n (token_of turn.old) (shown B.devices store.old self.old)) }
     {
         for k in 0..n {
             if turn.ending.is_some() {
@@ -94,7 +94,7 @@ impl<B: Bank> Machine<B> {
 
     // Ends a turn: how it ended, how many orders were done, and the control.
     pub fn hand_back(&self, turn: Turn) -> (Report, Control)
-        ensures { (store : List ℕ) → report_of result.0 ≡ handed_back (token_of turn) (shown devices store self.now) }
+        ensures { (store : List ℕ) → report_of result.0 ≡ handed_back (token_of turn) (shown B.devices store self.now) }
     {
         let Turn {
             slot,
@@ -114,7 +114,7 @@ impl<B: Bank> Machine<B> {
 
     // The first check of a step that fails, over a store of so many words.
     fn step_refusal(&self, words: usize, slot: u8) -> Option<Refusal>
-        ensures { (n : ℕ) (store : List ℕ) → length store ≡ words → first_number result ≡ refusal (turn slot n) (shown devices store self.now) }
+        ensures { (n : ℕ) (store : List ℕ) → length store ≡ words → first_number result ≡ refusal (turn slot n) (shown B.devices store self.now) }
     {
         match self.slots.state(slot) {
             None => Some(Refusal::SlotOver3),
@@ -138,7 +138,7 @@ impl<B: Bank> Machine<B> {
         slot: u8,
         n: u32,
     ) -> (Result<Report, Refusal>, Control)
-        ensures { ◌≡◌ (shown devices store.new self.new, reported result.0) (perform (turn slot n) (shown devices store.old self.old)) }
+        ensures { ◌≡◌ (shown B.devices store.new self.new, reported result.0) (perform (turn slot n) (shown B.devices store.old self.old)) }
     {
         match self.step_refusal(store.len(), slot) {
             Some(refusal) => (Err(refusal), control),

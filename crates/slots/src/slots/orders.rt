@@ -48,7 +48,7 @@ impl Slot {
         requires used { is_some (held self.old) ≡ true }
         requires inside { self.old.base + self.old.size ≤ length store.old }
         requires ahead { (ready : Bool) (bank : ℕ → Option Meaning) → Ok next ≡ foreseen (own_of p self.old.registers (part self.old.base self.old.size store.old) ready (records buffers.old.table) bank) }
-        ensures { Carried p (held self.old) (held self.new) store.old store.new (records buffers.old.table) (records buffers.new.table) (standing (devices bank.old)) (standing (devices bank.new)) (told result) }
+        ensures { Carried p (held self.old) (held self.new) store.old store.new (records buffers.old.table) (records buffers.new.table) (standing (B.devices bank.old)) (standing (B.devices bank.new)) (told result) }
     {
         let base = self.base as usize;
         let end = base + self.size as usize;
@@ -85,7 +85,7 @@ impl Slots {
     ) -> Outcome
         requires number { p < 4 }
         requires ahead { (ready : Bool) (bank : ℕ → Option Meaning) → Does next ≡ ahead_of p (program_at self.old p) store.old (records buffers.old.table) ready bank }
-        ensures { ◌≡◌ (world_of store.new self.new buffers.new.table (devices bank.new), told result) (tried_by p (world_of store.old self.old buffers.old.table (devices bank.old)) (program_at self.old p)) }
+        ensures { ◌≡◌ (world_of store.new self.new buffers.new.table (B.devices bank.new), told result) (tried_by p (world_of store.old self.old buffers.old.table (B.devices bank.old)) (program_at self.old p)) }
     {
         self.table[p as usize].carry(p, next, store, buffers, bank)
     }

@@ -22,7 +22,7 @@ returns-in_default g c =
 pub returns-in-Read : goal.returns-in-Read
 returns-in-Read g c =
     let d = standing (g.B.Bank.devices c.args.bank.now) c.args.n in
-    let area : c.read-words.new.area ≡ (effect c.args.x c.args.area.now d).area = search rules in
+    let area : c.read_words.new.area ≡ (effect c.args.x c.args.area.now d).area = search rules in
     record {
       area = area;
       moved = search rules;

@@ -11,8 +11,8 @@ use Rattle.transfer.proofs.moves.make_moves.Goals as goal
 pub loop-x-preserved : goal.loop-x-preserved
 loop-x-preserved g c =
     let d = g.B.Bank.devices in
-    in_turn_more c.args.n c.args.moves.now c.loop-x.x-index _ (d c.args.bank.now) (d c.loop-x.bank) (d c.make-move.new.bank) _ c.loop-x.area c.make-move.new.area
-    c.loop-x-test.true c.make-move.ensures.area c.make-move.ensures.after c.loop-x.invariant.0 c.loop-x.invariant.1
+    in_turn_more c.args.n c.args.moves.now c.loop-x.x-index _ (d c.args.bank.now) (d c.loop-x.bank) (d c.make_move.new.bank) _ c.loop-x.area c.make_move.new.area
+    c.loop-x-test.true c.make_move.ensures.area c.make_move.ensures.after c.loop-x.invariant.0 c.loop-x.invariant.1
 
 pub returns : goal.returns
 returns g c =

@@ -22,25 +22,25 @@ module _ (g : given.Over) (c : After-from g) where
   room : c.loop-k.word + c.from.result * 2 ^ (6 * (c.loop-k.k - 1)) + 2 ^ (6 * (c.loop-k.k - 1)) ≤ 2 ^ 48
   room = fits c.args.ends (g.B.Bank.devices c.loop-k.bank) c.args.n _ c.loop-k.k (c.loop-k.k - 1) c.loop-k.word c.from.result last answer small c.loop-k.invariant.0
 
-pub overflow-add-word : goal.overflow-add-word
-overflow-add-word g c = let r = room g c in omega arith
+pub overflow_add-word : goal.overflow_add-word
+overflow_add-word g c = let r = room g c in omega arith
 
 pub loop-k-preserved : goal.loop-k-preserved
 loop-k-preserved g c =
     let p = (goal.at.loop-k-preserved g c).After-from in
     let whole = shifted c.loop-k.word c.from.result (c.loop-k.k - 1) (room g p) in
-    let on = ap (ending c.args.ends) c.from.ensures ∙ sym c.is-end.ensures ∙ c.if-is-end.false in
+    let on = ap (ending c.args.ends) c.from.ensures ∙ sym c.is_end.ensures ∙ c.if-is_end.false in
     rw whole (
       more c.args.ends (g.B.Bank.devices c.loop-k.bank) c.args.n _ c.loop-k.k (c.loop-k.k - 1) c.loop-k.word c.from.result (last g p) (answer g p) (small g p) c.loop-k.invariant.0
           {b' = g.B.Bank.devices c.read.new.self} c.in-Ok.ensures.after on,
       beside_more read_after c.args.n _ _ {b' = g.B.Bank.devices c.read.new.self} c.in-Ok.ensures.after c.loop-k.invariant.1,
     )
 
-pub returns-then-is-end : goal.returns-then-is-end
-returns-then-is-end g c =
-    let p = (goal.at.returns-then-is-end g c).After-from in
+pub returns-then-is_end : goal.returns-then-is_end
+returns-then-is_end g c =
+    let p = (goal.at.returns-then-is_end g c).After-from in
     let whole = shifted c.loop-k.word c.from.result (c.loop-k.k - 1) (room g p) in
-    let off = ap (ending c.args.ends) c.from.ensures ∙ sym c.is-end.ensures ∙ c.if-is-end.true in
+    let off = ap (ending c.args.ends) c.from.ensures ∙ sym c.is_end.ensures ∙ c.if-is_end.true in
     let r = ended c.args.ends (g.B.Bank.devices c.loop-k.bank) c.args.n _ c.loop-k.k (c.loop-k.k - 1) c.loop-k.word c.from.result (last g p) (answer g p) (small g p) c.loop-k.invariant.0
     {b' = g.B.Bank.devices c.read.new.self} c.in-Ok.ensures.after c.loop-k.invariant.1 off in
     record { word = rw whole r.word; moved = r.moved_all; stop = r.stop; after = r.bank }

@@ -10,17 +10,17 @@ loop-k-preserved g c =
     let k = c.loop-k.k in
     let last : k ≡ suc (k - 1) = omega arith in (
       more c.args.ends (d c.loop-k.bank) c.args.n c.args.word _ k (k - 1) last _ refl {b' = d c.write.new.self} c.in-Ok.ensures.after c.loop-k.invariant.0
-          c.in-Ok.ensures.answer (sym c.is-end.ensures ∙ c.if-is-end.false),
+          c.in-Ok.ensures.answer (sym c.is_end.ensures ∙ c.if-is_end.false),
       beside_more (λ m. write_after m _) c.args.n (d c.args.bank.now) (d c.loop-k.bank) {b' = d c.write.new.self} c.in-Ok.ensures.after c.loop-k.invariant.1,
     )
 
-pub returns-then-is-end : goal.returns-then-is-end
-returns-then-is-end g c =
+pub returns-then-is_end : goal.returns-then-is_end
+returns-then-is_end g c =
     let d = g.B.Bank.devices in
     let k = c.loop-k.k in
     let last : k ≡ suc (k - 1) = omega arith in
     let r = ended c.args.ends (d c.loop-k.bank) c.args.n c.args.word _ k (k - 1) last _ refl {b' = d c.write.new.self} c.in-Ok.ensures.after c.loop-k.invariant.0 c.loop-k.invariant.1
-    c.in-Ok.ensures.answer (sym c.is-end.ensures ∙ c.if-is-end.true) in
+    c.in-Ok.ensures.answer (sym c.is_end.ensures ∙ c.if-is_end.true) in
     record { moved = r.moved_all; stop = r.stop; after = r.bank }
 
 pub returns-in-Err : goal.returns-in-Err

@@ -26,17 +26,17 @@ module _ (g : given.Over) (c : After-from-symbols g) where
   left = omega arith
 
   moved : c.loop-a.symbols + c.from-symbols.result ≡ c.loop-a.symbols + here.moved
-  moved = ap (λ i. c.loop-a.symbols + i) (c.from-symbols.ensures ∙ c.write-word-part.ensures.moved)
+  moved = ap (λ i. c.loop-a.symbols + i) (c.from-symbols.ensures ∙ c.write_word-part.ensures.moved)
 
-  device : standing (g.B.Bank.devices c.write-word-part.new.bank) c.args.n ≡ here.device
-  device = standing_set c.args.n (g.B.Bank.devices c.loop-a.bank) here.device (send_nothing c.args.ends _ _) c.write-word-part.ensures.after
+  device : standing (g.B.Bank.devices c.write_word-part.new.bank) c.args.n ≡ here.device
+  device = standing_set c.args.n (g.B.Bank.devices c.loop-a.bank) here.device (send_nothing c.args.ends _ _) c.write_word-part.ensures.after
 
-  went : is_all (stop_of c.write-word-part.result.stop) ≡ false →
-      Went whole (c.loop-a.symbols + c.from-symbols.result) here.stop (standing (g.B.Bank.devices c.write-word-part.new.bank) c.args.n)
-  went e = word_last c.args.ends whole _ _ _ _ _ _ left c.loop-a.invariant.0 _ _ moved device (ap is_all (sym c.write-word-part.ensures.stop) ∙ e)
+  went : is_all (stop_of c.write_word-part.result.stop) ≡ false →
+      Went whole (c.loop-a.symbols + c.from-symbols.result) here.stop (standing (g.B.Bank.devices c.write_word-part.new.bank) c.args.n)
+  went e = word_last c.args.ends whole _ _ _ _ _ _ left c.loop-a.invariant.0 _ _ moved device (ap is_all (sym c.write_word-part.ensures.stop) ∙ e)
 
-pub overflow-add-symbols : goal.overflow-add-symbols
-overflow-add-symbols g c =
+pub overflow_add-symbols : goal.overflow_add-symbols
+overflow_add-symbols g c =
     let d₀ = standing (g.B.Bank.devices c.args.bank.now) c.args.n in
     let n = c.args.last + 1 - c.args.first in
     let all_of = most c.args.ends (spread n c.args.first c.args.area.now) d₀ in
@@ -49,8 +49,8 @@ overflow-add-symbols g c =
 pub loop-a-preserved : goal.loop-a-preserved
 loop-a-preserved g c =
     let p = (goal.at.loop-a-preserved g c).After-from-symbols in (
-      word_more c.args.ends (whole g p) _ _ _ _ _ _ (left g p) c.loop-a.invariant.0 _ _ (moved g p) (device g p) (sym c.write-word-part.ensures.stop ∙ ap stop_of c.in-Full.is),
-      beside_set c.args.n _ _ (here g p).device c.write-word-part.ensures.after c.loop-a.invariant.1,
+      word_more c.args.ends (whole g p) _ _ _ _ _ _ (left g p) c.loop-a.invariant.0 _ _ (moved g p) (device g p) (sym c.write_word-part.ensures.stop ∙ ap stop_of c.in-Full.is),
+      beside_set c.args.n _ _ (here g p).device c.write_word-part.ensures.after c.loop-a.invariant.1,
     )
 
 pub returns-in-EndMessage : goal.returns-in-EndMessage
@@ -59,8 +59,8 @@ returns-in-EndMessage g c =
     let r = went g p (ap (λ s. is_all (stop_of s)) c.in-EndMessage.is) in
     record {
       moved = r.count;
-      refused = sym (ap why (sym r.stop ∙ sym c.write-word-part.ensures.stop ∙ ap stop_of c.in-EndMessage.is));
-      after = beside_all c.args.n _ _ _ (beside_set c.args.n _ _ (here g p).device c.write-word-part.ensures.after c.loop-a.invariant.1) r.device;
+      refused = sym (ap why (sym r.stop ∙ sym c.write_word-part.ensures.stop ∙ ap stop_of c.in-EndMessage.is));
+      after = beside_all c.args.n _ _ _ (beside_set c.args.n _ _ (here g p).device c.write_word-part.ensures.after c.loop-a.invariant.1) r.device;
     }
 
 pub returns-in-Refused : goal.returns-in-Refused
@@ -69,8 +69,8 @@ returns-in-Refused g c =
     let r = went g p (ap (λ s. is_all (stop_of s)) c.in-Refused.is) in
     record {
       moved = r.count;
-      refused = sym (ap why (sym r.stop ∙ sym c.write-word-part.ensures.stop ∙ ap stop_of c.in-Refused.is));
-      after = beside_all c.args.n _ _ _ (beside_set c.args.n _ _ (here g p).device c.write-word-part.ensures.after c.loop-a.invariant.1) r.device;
+      refused = sym (ap why (sym r.stop ∙ sym c.write_word-part.ensures.stop ∙ ap stop_of c.in-Refused.is));
+      after = beside_all c.args.n _ _ _ (beside_set c.args.n _ _ (here g p).device c.write_word-part.ensures.after c.loop-a.invariant.1) r.device;
     }
 
 pub returns : goal.returns

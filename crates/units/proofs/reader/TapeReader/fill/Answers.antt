@@ -12,7 +12,7 @@ invariant_of-self-in-loop-frame c = search (rules, below_push, cell_below)
 pub loop-frame-preserved : goal.loop-frame-preserved
 loop-frame-preserved c =
     let more = map_more cell_of c.args.frames.now c.loop-frame.frame-index 0 c.loop-frame-test.true in
-    (cc (c.push-reserved.ensures.items, c.loop-frame.invariant.0, c.cell_of.ensures, more), search rules, search rules)
+    (cc (c.push_reserved.ensures.items, c.loop-frame.invariant.0, c.cell_of.ensures, more), search rules, search rules)
 
 pub returns : goal.returns
 returns c =

@@ -15,8 +15,8 @@ use Rattle.outlook.proofs.bounds.transfer_broken.Goals.{In-Some}
 pub returns-in_default : goal.returns-in_default
 returns-in_default c = λ area ready bank e.
     let lines = lines_of c.args.slot (records c.args.buffers.now.table) bank in
-    subst (λ (q : Q). Some NoBuffer ≡ first (bounds_by c.args.order q (length area) lines)) c.q-of-q.ensures
-    (at_buffer c.args.order c.q-of-q.result (length area) lines (not_there c.args.slot c.q-of-q.result.c c.args.buffers.now.table bank c.in_default.ensures))
+    subst (λ (q : Q). Some NoBuffer ≡ first (bounds_by c.args.order q (length area) lines)) c.q_of-q.ensures
+    (at_buffer c.args.order c.q_of-q.result (length area) lines (not_there c.args.slot c.q_of-q.result.c c.args.buffers.now.table bank c.in_default.ensures))
 
 -- the tests of the code, at the Q as it has it, as tests on the program's buffers
 module _ (c : In-Some) (area : List ℕ) (bank : ℕ → Option Meaning) (e : length area ≡ c.args.size) where
@@ -24,52 +24,52 @@ module _ (c : In-Some) (area : List ℕ) (bank : ℕ → Option Meaning) (e : le
   lines = lines_of c.args.slot (records c.args.buffers.now.table) bank
 
   q : Q
-  q = c.q-of-q.result
+  q = c.q_of-q.result
 
-  here : Held c.args.slot c.q-of-q.result.c c.args.buffers.now.table c.in-Some.work
-  here = held c.args.slot c.q-of-q.result.c c.args.buffers.now.table c.in-Some.work c.args.buffers.now.sixteen c.in-Some.ensures
+  here : Held c.args.slot c.q_of-q.result.c c.args.buffers.now.table c.in-Some.work
+  here = held c.args.slot c.q_of-q.result.c c.args.buffers.now.table c.in-Some.work c.args.buffers.now.sixteen c.in-Some.ensures
 
   there : missing c.args.order q (length area) lines ≡ false
   unfolding lines q
-  there = is_there c.args.slot c.q-of-q.result.c c.args.buffers.now.table bank c.in-Some.work here
+  there = is_there c.args.slot c.q_of-q.result.c c.args.buffers.now.table bank c.in-Some.work here
 
-  limits : {t : Bool} → t ≡ (moves_words c.args.order && (ltb c.q-of-q.result.m c.q-of-q.result.i || leb c.args.size c.q-of-q.result.m)) → wrong c.args.order q (length area) lines ≡ t
+  limits : {t : Bool} → t ≡ (moves_words c.args.order && (ltb c.q_of-q.result.m c.q_of-q.result.i || leb c.args.size c.q_of-q.result.m)) → wrong c.args.order q (length area) lines ≡ t
   unfolding lines q
-  limits t = ap (λ n. moves_words c.args.order && (ltb c.q-of-q.result.m c.q-of-q.result.i || leb n c.q-of-q.result.m)) e ∙ sym t
+  limits t = ap (λ n. moves_words c.args.order && (ltb c.q_of-q.result.m c.q_of-q.result.i || leb n c.q_of-q.result.m)) e ∙ sym t
 
   busy : {t : Bool} → t ≡ (not (asks_busy c.args.order) && is_busy c.in-Some.work) → waits c.args.order q (length area) lines ≡ t
   unfolding lines q
-  busy t = ap (λ w. not (asks_busy c.args.order) && is_busy w) (same_work c.args.slot c.q-of-q.result.c c.args.buffers.now.table bank c.in-Some.work here) ∙ sym t
+  busy t = ap (λ w. not (asks_busy c.args.order) && is_busy w) (same_work c.args.slot c.q_of-q.result.c c.args.buffers.now.table bank c.in-Some.work here) ∙ sym t
 
-  lock : {t : Bool} → t ≡ (moves_words c.args.order && locked_between c.args.slot (records c.args.buffers.now.table) c.q-of-q.result.i c.q-of-q.result.m) → locked c.args.order q (length area) lines ≡ t
+  lock : {t : Bool} → t ≡ (moves_words c.args.order && locked_between c.args.slot (records c.args.buffers.now.table) c.q_of-q.result.i c.q_of-q.result.m) → locked c.args.order q (length area) lines ≡ t
   unfolding lines q
-  lock t = ap (λ b. moves_words c.args.order && b) (sym (locked_lines c.args.slot (records c.args.buffers.now.table) bank c.q-of-q.result.i c.q-of-q.result.m)) ∙ sym t
+  lock t = ap (λ b. moves_words c.args.order && b) (sym (locked_lines c.args.slot (records c.args.buffers.now.table) bank c.q_of-q.result.i c.q_of-q.result.m)) ∙ sym t
 
   -- the same at the Q that the definition names
   named : {r : Option Bound} → r ≡ first (bounds_by c.args.order q (length area) lines) → r ≡ first (bounds_by c.args.order (q_of c.args.number (regs_of c.args.regs.now)) (length area) lines)
   unfolding q
-  named {r} t = subst (λ (v : Q). r ≡ first (bounds_by c.args.order v (length area) lines)) c.q-of-q.ensures t
+  named {r} t = subst (λ (v : Q). r ≡ first (bounds_by c.args.order v (length area) lines)) c.q_of-q.ensures t
 
-pub returns-then-limits-wrong : goal.returns-then-limits-wrong
+pub returns-then-limits_wrong : goal.returns-then-limits_wrong
 unfolding lines
-returns-then-limits-wrong c = λ area ready bank e.
-    let s = (goal.at.returns-then-limits-wrong c).In-Some in
-    named s area bank e (at_limits c.args.order (q s area bank e) (length area) (lines s area bank e) (there s area bank e) (limits s area bank e c.if-limits-wrong.ensures))
+returns-then-limits_wrong c = λ area ready bank e.
+    let s = (goal.at.returns-then-limits_wrong c).In-Some in
+    named s area bank e (at_limits c.args.order (q s area bank e) (length area) (lines s area bank e) (there s area bank e) (limits s area bank e c.if-limits_wrong.ensures))
 
-pub returns-then-held-up : goal.returns-then-held-up
+pub returns-then-held_up : goal.returns-then-held_up
 unfolding lines
-returns-then-held-up c = λ area ready bank e.
-    let s = (goal.at.returns-then-held-up c).In-Some in
-    named s area bank e (at_busy c.args.order (q s area bank e) (length area) (lines s area bank e) (there s area bank e) (limits s area bank e c.if-limits-wrong.ensures) (busy s area bank e c.if-held-up.ensures))
+returns-then-held_up c = λ area ready bank e.
+    let s = (goal.at.returns-then-held_up c).In-Some in
+    named s area bank e (at_busy c.args.order (q s area bank e) (length area) (lines s area bank e) (there s area bank e) (limits s area bank e c.if-limits_wrong.ensures) (busy s area bank e c.if-held_up.ensures))
 
-pub returns-then-meets-lock : goal.returns-then-meets-lock
+pub returns-then-meets_lock : goal.returns-then-meets_lock
 unfolding lines
-returns-then-meets-lock c = λ area ready bank e.
-    let s = (goal.at.returns-then-meets-lock c).In-Some in
-    named s area bank e (at_lock c.args.order (q s area bank e) (length area) (lines s area bank e) (there s area bank e) (limits s area bank e c.if-limits-wrong.ensures) (busy s area bank e c.if-held-up.ensures) (lock s area bank e c.if-meets-lock.ensures))
+returns-then-meets_lock c = λ area ready bank e.
+    let s = (goal.at.returns-then-meets_lock c).In-Some in
+    named s area bank e (at_lock c.args.order (q s area bank e) (length area) (lines s area bank e) (there s area bank e) (limits s area bank e c.if-limits_wrong.ensures) (busy s area bank e c.if-held_up.ensures) (lock s area bank e c.if-meets_lock.ensures))
 
 pub returns : goal.returns
 unfolding lines
 returns c = λ area ready bank e.
     let s = (goal.at.returns c).In-Some in
-    named s area bank e (at_none c.args.order (q s area bank e) (length area) (lines s area bank e) (there s area bank e) (limits s area bank e c.if-limits-wrong.ensures) (busy s area bank e c.if-held-up.ensures) (lock s area bank e c.if-meets-lock.ensures))
+    named s area bank e (at_none c.args.order (q s area bank e) (length area) (lines s area bank e) (there s area bank e) (limits s area bank e c.if-limits_wrong.ensures) (busy s area bank e c.if-held_up.ensures) (lock s area bank e c.if-meets_lock.ensures))

@@ -15,34 +15,34 @@ use Rattle.outlook.proofs.Seeing.{same_outside, same_locked, same_next, same_ord
 use Rattle.outlook.proofs.next.outlook.Goals as goal
 use Rattle.outlook.proofs.next.outlook.Goals.{After-decode}
 
-pub returns-then-holds-lock : goal.returns-then-holds-lock
-returns-then-holds-lock c = λ ready bank.
+pub returns-then-holds_lock : goal.returns-then-holds_lock
+returns-then-holds_lock c = λ ready bank.
     let buffers = records c.args.buffers.now.table in
     let o = own_of c.args.slot c.args.regs.now c.args.area.now ready buffers bank in
     sees_lock o
-    (c.if-is-outside.ensures ∙ same_outside o c.place-place.result c.byte-at-command.result c.of-row.result c.place-place.type_inv c.place-place.ensures c.byte-at-command.ensures c.of-row.ensures)
-    (c.if-holds-lock.ensures ∙ same_locked o c.place-place.result c.byte-at-command.result c.of-row.result c.place-place.type_inv c.place-place.ensures c.byte-at-command.ensures c.of-row.ensures c.args.slot buffers bank refl)
+    (c.if-is_outside.ensures ∙ same_outside o c.place-place.result c.byte_at-command.result c.of-row.result c.place-place.type_inv c.place-place.ensures c.byte_at-command.ensures c.of-row.ensures)
+    (c.if-holds_lock.ensures ∙ same_locked o c.place-place.result c.byte_at-command.result c.of-row.result c.place-place.type_inv c.place-place.ensures c.byte_at-command.ensures c.of-row.ensures c.args.slot buffers bank refl)
 
 -- what the bytes say, where the order is inside the area and its words are not locked
 module _ (c : After-decode) (ready : Bool) (bank : ℕ → Option Meaning) where
   own : Own
   own = own_of c.args.slot c.args.regs.now c.args.area.now ready (records c.args.buffers.now.table) bank
 
-  read : (d : Result Order Undecoded) {r : Result Next Bound} → d ≡ order_of c.byte-at-command.result c.byte-at-x.result c.byte-at-y.result c.byte-at-z.result → r ≡ read_as d own → r ≡ foreseen own
+  read : (d : Result Order Undecoded) {r : Result Next Bound} → d ≡ order_of c.byte_at-command.result c.byte_at-x.result c.byte_at-y.result c.byte_at-z.result → r ≡ read_as d own → r ≡ foreseen own
   unfolding own
   read d ed t =
       sees_order own
-      (c.if-is-outside.ensures ∙ same_outside own c.place-place.result c.byte-at-command.result c.of-row.result c.place-place.type_inv c.place-place.ensures c.byte-at-command.ensures c.of-row.ensures)
-      (c.if-holds-lock.ensures ∙ same_locked own c.place-place.result c.byte-at-command.result c.of-row.result c.place-place.type_inv c.place-place.ensures c.byte-at-command.ensures c.of-row.ensures c.args.slot (records c.args.buffers.now.table) bank refl)
-      (t ∙ ap (λ x. read_as x own) (ed ∙ same_order own c.place-place.result c.byte-at-command.result c.of-row.result c.place-place.type_inv c.place-place.ensures c.byte-at-command.ensures c.of-row.ensures c.byte-at-x.result c.byte-at-y.result c.byte-at-z.result c.byte-at-x.ensures c.byte-at-y.ensures c.byte-at-z.ensures))
+      (c.if-is_outside.ensures ∙ same_outside own c.place-place.result c.byte_at-command.result c.of-row.result c.place-place.type_inv c.place-place.ensures c.byte_at-command.ensures c.of-row.ensures)
+      (c.if-holds_lock.ensures ∙ same_locked own c.place-place.result c.byte_at-command.result c.of-row.result c.place-place.type_inv c.place-place.ensures c.byte_at-command.ensures c.of-row.ensures c.args.slot (records c.args.buffers.now.table) bank refl)
+      (t ∙ ap (λ x. read_as x own) (ed ∙ same_order own c.place-place.result c.byte_at-command.result c.of-row.result c.place-place.type_inv c.place-place.ensures c.byte_at-command.ensures c.of-row.ensures c.byte_at-x.result c.byte_at-y.result c.byte_at-z.result c.byte_at-x.ensures c.byte_at-y.ensures c.byte_at-z.ensures))
 
   next : place_after c.place-place.result c.of-row.result.length ≡ next_place own
   unfolding own
-  next = same_next own c.place-place.result c.byte-at-command.result c.of-row.result c.place-place.type_inv c.place-place.ensures c.byte-at-command.ensures c.of-row.ensures
+  next = same_next own c.place-place.result c.byte_at-command.result c.of-row.result c.place-place.type_inv c.place-place.ensures c.byte_at-command.ensures c.of-row.ensures
 
 pub broken-requires : goal.broken-requires
 broken-requires c =
-    let a = agreement c.byte-at-command.result c.byte-at-x.result c.byte-at-y.result c.byte-at-z.result c.in-Ok.order (sym c.in-Ok.ensures) in
+    let a = agreement c.byte_at-command.result c.byte_at-x.result c.byte_at-y.result c.byte_at-z.result c.in-Ok.order (sym c.in-Ok.ensures) in
     record { cells = ap row_cells c.of-row.ensures ∙ a.same_cells; within = a.within }
 
 pub returns-in-Err : goal.returns-in-Err

@@ -7,7 +7,7 @@ use Rattle.tape_copy.proofs.frames.frames_for.Goals as goal
 pub loop-symbol-preserved : goal.loop-symbol-preserved
 loop-symbol-preserved c =
     let more = map_more (λ s. frame_for (s % 64)) c.args.symbols.now c.loop-symbol.symbol-index 0 c.loop-symbol-test.true in
-    (cc (c.push-reserved.ensures.items, c.loop-symbol.invariant.0, c.frame_for.ensures, more), search rules, search rules)
+    (cc (c.push_reserved.ensures.items, c.loop-symbol.invariant.0, c.frame_for.ensures, more), search rules, search rules)
 
 pub returns : goal.returns
 returns c = record {
@@ -16,5 +16,5 @@ returns c = record {
 }
 
 -- want of memory
-pub returns-in-err-frames : goal.returns-in-err-frames
-returns-in-err-frames c = record { frames = search rules; back = read_back }
+pub returns-in_err-frames : goal.returns-in_err-frames
+returns-in_err-frames c = record { frames = search rules; back = read_back }

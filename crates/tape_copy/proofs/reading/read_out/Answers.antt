@@ -12,8 +12,8 @@ pub loop-number-init : goal.loop-number-init
 loop-number-init g c =
     let b = g.B.Bank.devices c.args.bank.now in
     let d = standing b c.args.n in
-    let s = c.in-ok-symbols.ensures in
-    let t = c.in-ok-damaged.ensures in (
+    let s = c.in_ok-symbols.ensures in
+    let t = c.in_ok-damaged.ensures in (
       renamed d d 0 s.items t.items (started d),
       beside_none c.args.n b,
       omega (arith, s.len),
@@ -22,8 +22,8 @@ loop-number-init g c =
       t.capacity,
     )
 
-pub push-reserved-requires : goal.push-reserved-requires
-push-reserved-requires g c =
+pub push_reserved-requires : goal.push_reserved-requires
+push_reserved-requires g c =
     let d = g.B.Bank.devices in
     let n = c.args.n in
     let here = d c.loop-number.bank in
@@ -34,8 +34,8 @@ push-reserved-requires g c =
     let few = room _ (standing here n) _ _ _ sound c.loop-number.invariant.0 whole on in
     omega (arith, few, c.loop-number.invariant.2, c.loop-number.invariant.4)
 
-pub push-reserved-requires-in-Damaged : goal.push-reserved-requires-in-Damaged
-push-reserved-requires-in-Damaged g c =
+pub push_reserved-requires-in-Damaged : goal.push_reserved-requires-in-Damaged
+push_reserved-requires-in-Damaged g c =
     let d = g.B.Bank.devices in
     let n = c.args.n in
     let here = d c.loop-number.bank in
@@ -77,7 +77,7 @@ loop-number-preserved g c =
     let then = standing_after read_after here n {b' = d c.read.new.self} c.read.ensures.after in
     elim c.match-read.branch [
       | in-Ok w ↦
-          let push = w.push-reserved.ensures in
+          let push = w.push_reserved.ensures in
           let on = more _ (standing here n) _ _ _ sound inv.0 w.in-Ok.symbol {rest' = standing (d c.read.new.self) n} w.in-Ok.ensures.answer then in (
             renamed _ _ _ (ap vec_items w.symbols-is ∙ push.items) (ap vec_items w.damaged-is) on,
             beside,
@@ -87,7 +87,7 @@ loop-number-preserved g c =
             omega (arith, ap vec_capacity w.damaged-is, inv.5),
           )
       | in-Err+in-Damaged w ↦
-          let push = w.push-reserved-in-Damaged.ensures in
+          let push = w.push_reserved-in-Damaged.ensures in
           let damaged : Err "damaged" ≡ bank_answer read_answer here n = sym (ap (λ r. Err (words r)) w.in-Damaged.is) ∙ w.in-Err.ensures.answer in
           let on = skip _ (standing here n) _ _ _ sound inv.0 {rest' = standing (d c.read.new.self) n} damaged then in (
             renamed _ _ _ (ap vec_items w.symbols-is) (ap vec_items w.damaged-is ∙ push.items) on,

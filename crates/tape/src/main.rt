@@ -4,18 +4,20 @@
 mod job;
 mod report;
 
+use anyhow::anyhow;
 use job::copy_tape;
 use std::env;
+use std::process::ExitCode;
 
 const USAGE: &str =
     "usage: tape FILE COPY, where FILE holds a frame in each byte and COPY is written anew";
 
-fn main(rt: HostRuntime) -> anyhow::Result<()> {
+fn main(rt: HostRuntime) -> ExitCode {
     match run(&rt) {
-        Ok(()) => Ok(()),
+        Ok(()) => ExitCode::SUCCESS,
         Err(e) => {
-            eprintln!(rt; "tape: {e}")?;
-            Err(e)
+            let _ = eprintln!(rt; "tape: {e}");
+            ExitCode::FAILURE
         }
     }
 }
@@ -25,6 +27,6 @@ fn run(rt: &HostRuntime) -> anyhow::Result<()> {
     let _ = args.next();
     match (args.next(), args.next(), args.next()) {
         (Some(from), Some(to), None) => copy_tape(rt, from.as_str(), to.as_str()),
-        _ => Err(USAGE.into()),
+        _ => Err(anyhow!(USAGE)),
     }
 }

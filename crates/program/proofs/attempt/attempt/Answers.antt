@@ -10,6 +10,6 @@ returns-in-Ok g c = record {
   own = λ ready.
       let bank = standing (g.B.Bank.devices c.args.bank.now) in
       let o = own_of c.args.slot c.args.regs.now c.args.area.now ready (records c.args.buffers.now.table) bank in
-      ap (λ r. tried r o) (sym (c.in-Ok.ensures ready bank)) ∙ c.carry-next.ensures.own ready;
-  kept = c.carry-next.ensures.kept;
+      ap (λ r. tried r o) (sym (c.in-Ok.ensures ready bank)) ∙ c.carry_next.ensures.own ready;
+  kept = c.carry_next.ensures.kept;
 }

@@ -8,7 +8,7 @@ pub loop-k-preserved : goal.loop-k-preserved
 loop-k-preserved c =
     below_more _ _
     (λ j h. let ne : j ≢ c.loop-k.k = omega arith in rw get_or-set_other (c.loop-k.invariant j h))
-    (let lt : c.loop-k.k < length c.loop-k.area = omega arith in get_or-set_same c.loop-k.area c.loop-k.k c.word-of.result 0 lt ∙ c.word-of.ensures)
+    (let lt : c.loop-k.k < length c.loop-k.area = omega arith in get_or-set_same c.loop-k.area c.loop-k.k c.word_of.result 0 lt ∙ c.word_of.ensures)
 
 pub returns : goal.returns
 unfolding image_words

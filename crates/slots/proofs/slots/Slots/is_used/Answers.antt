@@ -3,4 +3,4 @@ use Rattle.slots.proofs.Tables.{there}
 use Rattle.slots.proofs.slots.Slots.is_used.Goals as goal
 
 pub returns : goal.returns
-returns c = c.is-used.ensures ∙ sym (ap is_some (there c.args.self.now.table c.args.p c.index-self-p.result (omega arith)))
+returns c = c.is_used.ensures ∙ sym (ap is_some (there c.args.self.now.table c.args.p c.index-self-p.result (omega arith)))

@@ -24,7 +24,7 @@ pub struct Machine<B> {
 impl<B: Bank> Machine<B> {
     // Empty slots over a bank, and Director's control.
     pub fn new(bank: B) -> (Machine<B>, Control)
-        ensures { (store : List ℕ) → shown devices store result.0 ≡ made store (standing (devices bank)) }
+        ensures { (store : List ℕ) → shown B.devices store result.0 ≡ made store (standing (B.devices bank)) }
     {
         (
             Machine {

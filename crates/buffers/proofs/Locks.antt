@@ -1,12 +1,12 @@
 -- Locks of a slot's buffers: by buffers and then by words, as the code looks, or by words and then by buffers.
-use Rattle.std.proofs.Common.{◌≡◌, ℕ, ◌+◌, ◌-◌, ◌<◌, Bool, true, false, cond, ◌&&◌, List, map, length, sym, refl, ap, ◌∙◌, inl, inr, arith}
+use Rattle.std.proofs.Common.{◌≡◌, ℕ, ◌+◌, ◌-◌, Bool, true, false, cond, ◌&&◌, List, map, length, sym, refl, ap, ◌∙◌, inl, inr, arith}
 use mathlib.Core.Path.{fun_ext}
 use Rattle.std.proofs.lemmas.List.{get_or_past, get_or-map, length-map}
 use Rattle.std.proofs.lemmas.Bool.{cases_lt, and_right}
 use Rattle.buffers.specs.declared.buffer.Work.{Work}
 use Rattle.buffers.specs.declared.buffer.Work.TheVariants.{Idle, Seeking, Moving}
 use Rattle.buffers.specs.declared.buffer.Buffer.{Buffer}
-use Rattle.buffers.specs.Buffers.{free, records, holds, is_moving, locks, any_below, locked_by, locked_between, Quiet, released}
+use Rattle.buffers.specs.Buffers.{free, records, holds, is_moving, locks, any_below, locked_between, Quiet, released}
 use Rattle.buffers.proofs.Found.{any_and, any_swap, any_not, any_none_at}
 
 -- whether buffer k of a slot locks one of the words from the first to the last address

@@ -1,5 +1,5 @@
 -- A list whose elements are changed in place, one after another, by one function.
-use Rattle.std.proofs.Common.{◌≡◌, ℕ, ◌+◌, ◌<◌, ◌≤◌, min, List, [], ◌∷◌, ◌++◌, map, length, get_or, take, drop, set, sym, ap, ◌∙◌, subst, arith}
+use Rattle.std.proofs.Common.{◌≡◌, ℕ, ◌+◌, ◌<◌, ◌≤◌, List, [], ◌∷◌, ◌++◌, map, length, get_or, take, drop, set, sym, ap, ◌∙◌, arith}
 use Rattle.std.proofs.lemmas.List.{append_assoc, append-nil, set_at, get_or_at, drop_more, drop_all, take_all, map_more, length-map, length-take-le}
 
 module _ {X : Type 0} (f : X → X) (xs : List X) where

@@ -7,7 +7,7 @@
 -- locks                whether a buffer's work locks a word: it locks the groups of the words that it moves
 -- locked_between       whether a slot's buffers lock one of the words from the first to the last address
 -- with_work, with_owner, released    a record with other work, with an owner, and made free if it is a slot's
-use Rattle.std.specs.Prelude.{◌≡◌, ℕ, zero, suc, ◌+◌, ◌-◌, ◌/◌, Bool, true, false, cond, ◌&&◌, ◌||◌, List, replicate, Some, None, Option, ◌==◌, nat_le, slice_index_or}
+use Rattle.std.specs.Prelude.{◌≡◌, ℕ, zero, suc, ◌+◌, ◌-◌, ◌/◌, Bool, true, false, cond, ◌&&◌, ◌||◌, List, Some, None, Option, ◌==◌, nat_le, slice_index_or}
 use Rattle.buffers.specs.declared.buffer.Work.{Work}
 use Rattle.buffers.specs.declared.buffer.Work.TheVariants.{Idle, Seeking, Moving}
 use Rattle.buffers.specs.declared.buffer.Buffer.{Buffer}

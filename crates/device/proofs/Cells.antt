@@ -1,5 +1,5 @@
 -- What an edit of a list of cells keeps.
-use Rattle.std.proofs.Common.{ℕ, zero, suc, ◌<◌, List, [], ◌∷◌, ◌++◌, get_or, set, replicate, arith}
+use Rattle.std.proofs.Common.{ℕ, zero, suc, ◌<◌, List, [], ◌∷◌, ◌++◌, set, replicate, arith}
 use Rattle.device.specs.Meaning.{Below}
 
 pub below_push : (n : ℕ) (xs : List ℕ) (s : ℕ) → Below n xs → s < n → Below n (xs ++ (s ∷ []))

@@ -7,7 +7,7 @@
 -- answer_of, after_of          a call of what stands on a number: what it answers, and what stands there after it
 -- bank_answer, bank_after      a call at a number: what it answers, and the bank after it
 -- plugged                      a bank with a device on a number, hiding what stood there
-use Rattle.std.specs.Prelude.{◌≡◌, ℕ, List, length, replicate, IfSome, Some, None, Ok, Err, Option, Result, slice_index_or, slice_set}
+use Rattle.std.specs.Prelude.{◌≡◌, ℕ, List, length, replicate, IfSome, Some, None, Err, Option, Result, slice_index_or, slice_set}
 use Prim.Native.String.{String}
 use Rattle.device.specs.Meaning.{Meaning, Sound}
 

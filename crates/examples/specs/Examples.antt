@@ -3,8 +3,7 @@
 -- tried_after    what trying an order comes to after n others were tried
 -- owned_after    what the program owns after n orders were tried
 -- program        a program of 32 words: its first words, its Q1, and what it has on buffer 3
-use Rattle.std.specs.Prelude.{◌≡◌, ℕ, zero, suc, ◌-◌, true, false, List, [], ◌∷◌, ◌++◌, map, length, replicate, Some, None, Option, slice_index_or}
-use Rattle.device.specs.Meaning.{Meaning, moved}
+use Rattle.std.specs.Prelude.{◌≡◌, ℕ, zero, suc, ◌-◌, true, List, [], ◌∷◌, ◌++◌, map, length, replicate, Some, None, Option, slice_index_or}
 use Rattle.units.specs.Frames.{cell_of}
 use Rattle.units.specs.Units.{reader_of}
 use Rattle.word.specs.Qs.{parts}

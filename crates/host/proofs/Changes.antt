@@ -1,6 +1,6 @@
 -- What an order changes of what its program owns, for all that concerns other programs: the words of the area, but not how many, and at
 -- most the device and the work of one buffer that is the program's.
-use Rattle.std.proofs.Common.{◌≡◌, ℕ, ◌-◌, ◌<◌, ◌≤◌, Bool, true, false, cond, not, ◌||◌, ltb, leb, ◌⊎◌, List, [], ◌∷◌, length, is_some, Some, None, Ok, Err, Option, Result, refl, ap, subst, inl, inr, arith, length-set}
+use Rattle.std.proofs.Common.{◌≡◌, ℕ, ◌<◌, ◌≤◌, Bool, true, false, cond, not, ◌||◌, ltb, leb, ◌⊎◌, List, [], ◌∷◌, length, is_some, Some, None, Ok, Err, Option, Result, refl, ap, subst, inl, inr, arith, length-set}
 use Prim.Native.String.{String}
 use Rattle.std.proofs.lemmas.Bool.{or_parts, ltb-false, leb-false, not-false}
 use Rattle.word.specs.declared.q.Q.{Q}

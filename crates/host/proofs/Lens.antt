@@ -8,7 +8,7 @@ use Rattle.buffers.specs.declared.buffer.Buffer.{Buffer}
 use Rattle.buffers.specs.Buffers.{holds, owner_is}
 use Rattle.outlook.specs.Own.{Own, Line, line_if, lines_of}
 use Rattle.program.specs.Kept.{Kept, update}
-use Rattle.host.specs.World.{World, Program, part, put_part, own_in, owned_by, owned, with_own, line_put, device_put, put}
+use Rattle.host.specs.World.{World, Program, put_part, own_in, owned_by, owned, with_own, line_put, device_put, put}
 use Rattle.host.proofs.Parts.{part_put, put_put as put_part_twice}
 
 -- a function with another value at one number

@@ -1,24 +1,21 @@
 -- A turn is entering, its steps, and handing back.
-use Rattle.std.proofs.Common.{◌≡◌, ℕ, zero, suc, ◌+◌, ◌-◌, ◌^◌, ◌<◌, ◌≤◌, min, Bool, true, false, cond, not, eqb, ltb, List, [], ◌∷◌, length, is_some, Some, None, Option, sym, refl, ap, ◌∙◌, subst, ap₂, inl, inr, arith}
+use Rattle.std.proofs.Common.{◌≡◌, ℕ, zero, suc, ◌+◌, ◌^◌, ◌<◌, ◌≤◌, Bool, true, false, cond, not, eqb, ltb, length, is_some, Some, None, Option, sym, refl, ap, ◌∙◌, ap₂, inl, inr, arith}
 use mathlib.Core.Path.{fun_ext}
 use Rattle.std.proofs.lemmas.Bool.{cases_eq, cond-true, cond-false, le-ltb, ltb-false, eq-eqb}
-use Rattle.outlook.specs.Own.{Own, lines_of}
+use Rattle.outlook.specs.Own.{Own}
 use Rattle.program.specs.Kept.{update}
 use Rattle.program.specs.Told.{Told}
 use Rattle.program.specs.Told.Told.{done, broke, refused, out}
 use Rattle.program.proofs.Changes.{nothing_changed}
-use Rattle.outlook.specs.Words.{violation_of}
-use Rattle.outlook.specs.declared.bound.Violation.{Violation}
-use Rattle.outlook.specs.declared.bound.Violation.TheVariants.{Liv, Nouv, Lov}
 use Rattle.buffers.specs.Buffers.{holds}
-use Rattle.host.specs.World.{World, Program, part, own_in, with_own, put}
-use Rattle.host.specs.Causes.{Cause, Ending, Report}
-use Rattle.host.specs.Turns.{Turn, Stop, try, cause_by, stops, done_by, left_by, stopped, stop_at, one_more, orders, violation_stops}
+use Rattle.host.specs.World.{World, Program, own_in, with_own, put}
+use Rattle.host.specs.Causes.{Cause, Ending}
+use Rattle.host.specs.Turns.{Turn, Stop, try, cause_by, stops, done_by, left_by, stopped, stop_at, one_more, orders}
 use Rattle.host.specs.Numbers.{Answer}
 use Rattle.host.specs.Numbers.Answer.{ended}
-use Rattle.host.specs.Calls.{Call, step_checks, first_failing, refusal, is_stopped, cut_off, turned, turn_report, perform, by_check}
+use Rattle.host.specs.Calls.{step_checks, first_failing, refusal, is_stopped, cut_off, turned, turn_report, perform, by_check}
 use Rattle.host.specs.Calls.Call.{turn}
-use Rattle.host.specs.Steps.{Token, Stepped, entered, stepped, step_on, step_checked, step_in, tried_in, told_of, ending_at, counted, handed_back, ending_or_count, place_in, steps}
+use Rattle.host.specs.Steps.{Token, Stepped, entered, stepped, step_on, step_checked, step_in, tried_in, ending_at, counted, handed_back, ending_or_count, place_in, steps}
 use Rattle.host.proofs.Changes.{ready_try}
 use Rattle.host.proofs.Keeps.{Keeps, keeps_left, keeps_try, keeps_after, keeps_orders}
 use Rattle.host.proofs.Lens.{FitsIn, own_put, slot_put, put_put, put_back, line_there, update_other}

@@ -1,5 +1,5 @@
 -- What the order list says of a range of command bytes: a comparison that antt computes over the range, taken at each of its bytes.
-use Rattle.std.proofs.Common.{◌≡◌, ℕ, ◌+◌, ◌-◌, ◌^◌, ◌<◌, ◌≤◌, Bool, true, false, cond, not, ◌&&◌, leb, ◌⊎◌, map, get_or, ℤ, Some, None, Ok, Err, Option, sym, refl, ap, ◌∙◌, ⊎_elim, arith, to_z, of_z}
+use Rattle.std.proofs.Common.{◌≡◌, ℕ, ◌+◌, ◌-◌, ◌^◌, ◌<◌, ◌≤◌, Bool, true, false, not, ◌&&◌, leb, ◌⊎◌, map, get_or, ℤ, Some, None, Ok, Err, Option, sym, ap, ◌∙◌, ⊎_elim, arith, to_z, of_z}
 use mir.Syntax.{Width}
 use mir.Val.{bits}
 use Rattle.std.proofs.lemmas.List.FromFn.{get_or-map-range_with_len}

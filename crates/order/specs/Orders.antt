@@ -33,7 +33,6 @@ use Rattle.order.specs.declared.code.IndexedOrder.{IndexedOrder}
 use Rattle.order.specs.declared.code.IndexedOrder.TheVariants as at_k
 use Rattle.order.specs.declared.code.Parts.{Parts}
 use Rattle.order.specs.declared.code.Parts.TheVariants as part
-use Rattle.order.specs.declared.code.RegisterOrder.{RegisterOrder}
 use Rattle.order.specs.declared.code.RegisterOrder.TheVariants.{Move, Unary, Binary, Control, Q, ShiftByCount, ShiftBy, Exit, Jump, Set, JumpCount, Copy}
 use Rattle.order.specs.declared.code.Order.{Order}
 use Rattle.order.specs.declared.code.Order.TheVariants.{Register, Store, Indexed, Transfer, Out}

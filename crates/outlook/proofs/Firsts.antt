@@ -1,5 +1,5 @@
 -- The first broken bound of a list that has a front and a back.
-use Rattle.std.proofs.Common.{◌≡◌, ℕ, Bool, true, false, cond, List, [], ◌∷◌, ◌++◌, Some, None, Option, refl, arith}
+use Rattle.std.proofs.Common.{◌≡◌, ℕ, Bool, true, false, cond, List, [], ◌∷◌, ◌++◌, Some, None, refl, arith}
 use Rattle.outlook.specs.declared.bound.Bound.{Bound}
 use Rattle.outlook.specs.Bounds.{first}
 

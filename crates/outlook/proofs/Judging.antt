@@ -1,5 +1,5 @@
 -- The bounds of an order in two parts, as the code judges them: those of nest and links, and the others.
-use Rattle.std.proofs.Common.{◌≡◌, ℕ, Bool, not, leb, List, [], ◌∷◌, Some, None, Option, sym, refl, ap, ◌∙◌, subst, ap₂}
+use Rattle.std.proofs.Common.{◌≡◌, ℕ, Bool, not, leb, List, [], ◌∷◌, Some, None, Option, sym, ap, ◌∙◌}
 use Rattle.device.specs.Meaning.{Meaning}
 use Rattle.order.specs.Cells.{Cells, cells}
 use Rattle.order.specs.declared.code.Order.{Order}

@@ -1,5 +1,5 @@
 -- The buffers of a slot, as records and as the lines of its program.
-use Rattle.std.proofs.Common.{◌≡◌, ℕ, ◌+◌, ◌-◌, ◌<◌, ◌≤◌, Bool, true, false, cond, not, ◌&&◌, ◌||◌, ltb, List, length, is_some, Some, None, Option, sym, refl, ap, ◌∙◌, inl, inr, arith}
+use Rattle.std.proofs.Common.{◌≡◌, ℕ, ◌+◌, ◌-◌, ◌≤◌, Bool, true, false, cond, not, ◌&&◌, ◌||◌, ltb, List, length, is_some, Some, None, Option, sym, refl, ap, ◌∙◌, inl, inr, arith}
 use mathlib.Core.Path.{fun_ext}
 use Rattle.std.proofs.lemmas.List.{get_or_past}
 use Rattle.std.proofs.lemmas.Bool.{cases_lt, le-ltb, or_from, or_right}
@@ -7,7 +7,7 @@ use Rattle.device.specs.Meaning.{Meaning}
 use Rattle.buffers.specs.declared.buffer.Work.{Work}
 use Rattle.buffers.specs.declared.buffer.Buffer.{Buffer}
 use Rattle.buffers.specs.Buffers.{free, records, holds, locks, any_below, locked_between, work_of}
-use Rattle.outlook.specs.Own.{Line, line_if, lines_of, line_work, lines_locked}
+use Rattle.outlook.specs.Own.{line_if, lines_of, line_work, lines_locked}
 
 line_locks : (h : Bool) (d : Option Meaning) (w : Work) (a : ℕ) → (h && locks w a) ≡ locks (line_work (line_if h d w)) a
 line_locks true d w a = refl

@@ -1,18 +1,16 @@
 -- The outlook by what the code read: the place, the command with its row, and the three bytes after it.
-use Rattle.std.proofs.Common.{◌≡◌, ℕ, ◌+◌, ◌*◌, ◌/◌, ◌%◌, ◌^◌, ◌<◌, Bool, true, false, leb, List, length, Some, None, Ok, Err, Option, Result, sym, refl, ap, ◌∙◌, subst, ap₂, arith}
+use Rattle.std.proofs.Common.{◌≡◌, ℕ, ◌*◌, ◌/◌, ◌^◌, ◌<◌, true, false, leb, length, Err, Option, Result, sym, refl, ap, ◌∙◌, ap₂, arith}
 use mathlib.Core.Path.{fun_ext}
 use Rattle.device.specs.Meaning.{Meaning}
 use Rattle.order.specs.Orders.{order_of}
 use Rattle.order.specs.Table.{row_of}
-use Rattle.order.specs.declared.code.Order.{Order}
-use Rattle.order.specs.declared.code.Undecoded.{Undecoded}
 use Rattle.order.specs.declared.table.Row.{Row}
 use Rattle.buffers.specs.declared.buffer.Buffer.{Buffer}
 use Rattle.buffers.specs.Buffers.{any_below, locked_between}
 use Rattle.outlook.specs.Own.{Own, Line, lines_of, lines_locked}
 use Rattle.outlook.specs.Places.{byte_at, place_after, order_byte, order_row, order_here}
-use Rattle.outlook.specs.Bounds.{place_outside, words_locked, order_bounds, first}
-use Rattle.outlook.specs.Outlook.{next_place, judged, read_as, foreseen}
+use Rattle.outlook.specs.Bounds.{place_outside, words_locked}
+use Rattle.outlook.specs.Outlook.{next_place, read_as, foreseen}
 use Rattle.outlook.specs.declared.bound.Bound.{Bound}
 use Rattle.outlook.specs.declared.bound.Bound.TheVariants.{Place, OrderLock}
 use Rattle.outlook.specs.declared.next.Next.{Next}

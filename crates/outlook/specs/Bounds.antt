@@ -10,7 +10,6 @@
 -- touches_lock      a word that it touches is locked
 -- order_bounds      all bounds of an order that could be read, in the order in which they are judged
 use Rattle.std.specs.Prelude.{ℕ, ◌+◌, ◌*◌, ◌/◌, Bool, true, false, cond, not, ◌&&◌, ◌||◌, leb, List, [], ◌∷◌, length, is_some, Some, None, Option, nat_le, nat_lt}
-use Rattle.word.specs.declared.q.Q.{Q}
 use Rattle.order.specs.Cells.{Cells, cells}
 use Rattle.order.specs.declared.code.Order.{Order}
 use Rattle.order.specs.declared.code.Order.TheVariants.{Register, Store, Indexed, Transfer, Out}

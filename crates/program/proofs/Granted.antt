@@ -1,6 +1,6 @@
 -- What an order that breaks no bound has: its Qs are Q0 to Q15, and each bound is kept.
-use Rattle.std.proofs.Common.{◌≡◌, ℕ, ◌+◌, ◌<◌, ◌≤◌, Bool, true, false, cond, not, ◌||◌, ltb, leb, List, [], ◌∷◌, length, is_some, Some, None, Ok, Err, Option, Result, sym, refl, ap, ◌∙◌, subst, arith}
-use Rattle.std.proofs.lemmas.Bool.{or_parts, ltb-false, leb-false, not-false}
+use Rattle.std.proofs.Common.{◌≡◌, ℕ, ◌+◌, ◌≤◌, Bool, true, false, cond, not, ◌||◌, ltb, List, [], ◌∷◌, length, is_some, Some, None, Ok, Err, Option, Result, sym, refl, ap, subst, arith}
+use Rattle.std.proofs.lemmas.Bool.{or_parts, ltb-false, not-false}
 use Rattle.device.specs.Meaning.{Meaning}
 use Rattle.order.specs.Cells.{Cells, cells}
 use Rattle.order.specs.Shape.{Within}
@@ -9,14 +9,13 @@ use Rattle.order.specs.declared.code.Undecoded.{Undecoded}
 use Rattle.order.proofs.Agree.{agreement}
 use Rattle.registers.specs.Enough.{Enough}
 use Rattle.registers.specs.Registers.{Regs}
-use Rattle.buffers.specs.declared.buffer.Work.{Work}
 use Rattle.buffers.specs.declared.buffer.Buffer.{Buffer}
 use Rattle.buffers.specs.Buffers.{holds}
 use Rattle.outlook.specs.declared.bound.Bound.{Bound}
 use Rattle.outlook.specs.declared.bound.Bound.TheVariants.{Place, OrderLock, CellsShort, CellsOver, ShiftLength, Address, NoBuffer, Limits, Busy, WordLock}
 use Rattle.outlook.specs.declared.next.Next.{Next}
 use Rattle.outlook.specs.Own.{Own, line_if, lines_of}
-use Rattle.outlook.specs.Places.{order_byte, order_here}
+use Rattle.outlook.specs.Places.{order_here}
 use Rattle.outlook.specs.Bounds.{place_outside, words_locked, short, over, length_fits, address_outside, no_buffer, limits_wrong, held_up, touches_lock, order_bounds, first}
 use Rattle.outlook.specs.Outlook.{next_place, judged, read_as, foreseen}
 use Rattle.outlook.proofs.Firsts.{first_none}

@@ -1,5 +1,5 @@
 -- A move on what its program owns, from what the code did to area, registers, buffers and bank.
-use Rattle.std.proofs.Common.{◌≡◌, ℕ, Bool, true, List, Some, None, Option, sym, refl, ap, ◌∙◌, ap₂}
+use Rattle.std.proofs.Common.{◌≡◌, ℕ, Bool, true, List, Some, None, Option, sym, ap, ◌∙◌}
 use Prim.Native.String.{String}
 use Rattle.device.specs.Meaning.{Meaning}
 use Rattle.word.specs.declared.q.Q.{Q}
@@ -11,7 +11,6 @@ use Rattle.buffers.specs.Buffers.{holds, with_work, is_busy}
 use Rattle.outlook.specs.Own.{Own, line_if, lines_of, line_work, line_device, owning}
 use Rattle.program.specs.Effects.{move_by, work_by, ended, moved_by, asked}
 use Rattle.program.specs.Kept.{Kept, update}
-use Rattle.program.specs.Told.{Told}
 use Rattle.program.specs.Told.Told.{done, refused}
 use Rattle.program.proofs.Changes.{lines_changed, one_changed, unchanged}
 

@@ -5,7 +5,7 @@
 -- asked          BUSY: T says whether that buffer is busy
 -- carried        an order that breaks no bound, with the place of the one after it
 -- attempted      the order at the program's place: carried out, or the first bound that it breaks and nothing changed
-use Rattle.std.specs.Prelude.{ℕ, Bool, true, false, List, Some, None, Ok, Err, Option, Result}
+use Rattle.std.specs.Prelude.{ℕ, true, false, List, Some, None, Ok, Err, Option, Result}
 use Prim.Native.String.{String}
 use Rattle.word.specs.declared.q.Q.{Q}
 use Rattle.order.specs.declared.code.Order.{Order}

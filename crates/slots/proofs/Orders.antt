@@ -1,8 +1,8 @@
 -- The next order of the program in a slot.
-use Rattle.std.proofs.Common.{◌≡◌, ℕ, ◌+◌, ◌-◌, ◌<◌, ◌≤◌, Bool, true, false, cond, ltb, List, ◌++◌, map, length, get_or, take, drop, set, is_some, Some, None, Ok, Err, Option, Result, sym, refl, ap, ◌∙◌, subst, ap₂, inl, inr, arith, length-drop, length-take, drop-drop}
+use Rattle.std.proofs.Common.{◌≡◌, ℕ, ◌+◌, ◌<◌, ◌≤◌, Bool, true, false, cond, ltb, List, ◌++◌, map, length, get_or, take, drop, set, is_some, Some, None, Ok, Err, Option, Result, sym, refl, ap, ◌∙◌, arith, drop-drop}
 use mathlib.Core.Path.{fun_ext}
 use borrow.Rule.Slice.PartMut.{put_mid}
-use Rattle.std.proofs.lemmas.Bool.{cond_above, cases_lt, cond-true, lt-ltb, ltb-false}
+use Rattle.std.proofs.lemmas.Bool.{cond_above, ltb-false}
 use Rattle.device.specs.Meaning.{Meaning}
 use Rattle.buffers.specs.declared.buffer.Buffer.{Buffer}
 use Rattle.outlook.specs.Own.{Own, owning, own_of, lines_of}
@@ -10,10 +10,9 @@ use Rattle.outlook.specs.Outlook.{foreseen}
 use Rattle.outlook.specs.declared.bound.Bound.{Bound}
 use Rattle.outlook.specs.declared.next.Next.{Next}
 use Rattle.registers.specs.declared.registers.Registers.{Registers}
-use Rattle.program.specs.Effects.{attempted, tried, carried}
+use Rattle.program.specs.Effects.{tried, carried}
 use Rattle.program.specs.Kept.{Kept}
 use Rattle.program.specs.Told.{Told}
-use Rattle.host.specs.Calls.{cut_off}
 use Rattle.host.specs.Steps.{tried_by}
 use Rattle.host.specs.Turns.{try}
 use Rattle.host.specs.World.{World, Program, part, put_part, put, with_own}
@@ -25,7 +24,7 @@ use Rattle.slots.specs.declared.slots.Ahead.{Ahead}
 use Rattle.slots.specs.declared.slots.Slot.{Slot}
 use Rattle.slots.specs.declared.slots.State.{State}
 use Rattle.slots.specs.declared.slots.State.TheVariants.{Empty, Ready, Stopped}
-use Rattle.slots.specs.declared.slots.Ahead.TheVariants.{NoStore, Breaks, Does}
+use Rattle.slots.specs.declared.slots.Ahead.TheVariants.{NoStore, Does}
 use Rattle.slots.proofs.Tables.{there, one_set, used, as_program, with_registers}
 
 -- what is ahead, from the outlook on the part of the store

@@ -1,5 +1,5 @@
 -- A copy read again: the frame of each symbol is read as that symbol.
-use Rattle.std.proofs.Common.{◌≡◌, ℕ, suc, ◌%◌, ◌<◌, List, [], ◌∷◌, refl, ap, ◌∙◌, ap₂, arith}
+use Rattle.std.proofs.Common.{◌≡◌, ℕ, suc, ◌%◌, ◌<◌, [], ◌∷◌, refl, ap, ◌∙◌, ap₂, arith}
 use Rattle.units.specs.Frames.{cell_of, frame_for}
 use Rattle.units.proofs.Frames as frames
 use Rattle.tape_copy.specs.Copying.{CopiesReadBack}

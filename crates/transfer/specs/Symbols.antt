@@ -2,7 +2,7 @@
 use Rattle.std.specs.Prelude.{ℕ, zero, suc, ◌+◌, ◌*◌, ◌/◌, ◌%◌, ◌^◌, Bool, cond, ◌&&◌, List, [], ◌∷◌, ◌++◌, drop, Some, None, Ok, Err, Option, Result, ◌==◌, slice_index, slice_set}
 use Prim.Native.String.{String}
 use Rattle.device.specs.Meaning.{Meaning, read_answer, read_after, write_answer, write_after}
-use Rattle.device.specs.Bank.{Devices, answer_of, after_of}
+use Rattle.device.specs.Bank.{answer_of, after_of}
 use Rattle.device.specs.Words.{words}
 use Rattle.transfer.specs.declared.part.Stop.{Stop as Stopped}
 use Rattle.transfer.specs.declared.part.Stop.TheVariants.{Full, EndMessage, Refused}

@@ -1,9 +1,9 @@
 -- The frame of a symbol read back, by one test that antt computes over the 64 symbols.
-use Rattle.std.proofs.Common.{◌≡◌, ℕ, zero, suc, ◌<◌, Bool, true, false, ◌&&◌, eqb, ltb, sym, refl, ap, ◌∙◌, subst, ⊎_elim, arith}
+use Rattle.std.proofs.Common.{◌≡◌, ℕ, zero, suc, ◌<◌, Bool, true, ◌&&◌, eqb, ltb, refl, ap, ◌∙◌, ⊎_elim, arith}
 use lib.Count.{ones, ones_in}
 use Rattle.std.proofs.lemmas.Bool.{and_parts, ltb-true, eqb-true, cases_eq}
 use Rattle.units.specs.Frames.{sound_frame, cell_of, frame_for}
-use Rattle.units.specs.Examples.{FrameReadBack, FramesReadBack}
+use Rattle.units.specs.Examples.{FramesReadBack}
 
 -- whether a symbol's frame is a byte, sound, and read as that symbol
 unfoldable reads_back : ℕ → Bool

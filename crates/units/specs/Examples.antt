@@ -1,6 +1,6 @@
 -- Worked examples of frames, from the definitions that the contracts use.
 use Rattle.std.specs.Prelude.{◌≡◌, ℕ, ◌<◌, true, [], ◌∷◌, Ok, Err}
-use Rattle.device.specs.Meaning.{Meaning, read_answer, read_after, head_answer}
+use Rattle.device.specs.Meaning.{read_answer, read_after, head_answer}
 use Rattle.device.specs.Bank.{Devices, no_devices, plugged, bank_answer, bank_after}
 use Rattle.units.specs.Frames.{cell_of, frame_for, sound_frame}
 use Rattle.units.specs.Units.{reader_of, filled}

@@ -2,7 +2,7 @@
 --
 -- reader_of, punch_of, drum_of    the meaning of a unit, by what it holds
 -- fill_answer, filled             filling a reader with frames: the answer, and the meaning after it
-use Rattle.std.specs.Prelude.{ℕ, Bool, true, false, cond, List, map, length, Ok, Err, Result, nat_le}
+use Rattle.std.specs.Prelude.{ℕ, true, false, cond, List, map, length, Ok, Err, Result, nat_le}
 use Rattle.device.specs.Meaning.{Meaning}
 use Rattle.device.specs.declared.refusal.Writing.TheVariants.{Yes, WrongWay}
 use Rattle.units.specs.Frames.{cell_of}

@@ -31,7 +31,7 @@ impl Drum {
 impl Device for Drum {
     ghost meaning = { λ d. drum_of d.cells d.head };
 
-    ghost sound = { first_of (Prim.search rules, Prim.grind (arith, Self.row.coded.inj)) };
+    ghost sound = { Prim.search rules };
 
     fn read(&mut self) -> Result<u8, Refusal> {
         let at = usize::from(self.head);

@@ -36,7 +36,7 @@ impl Punch {
 impl Device for Punch {
     ghost meaning = { λ p. punch_of p.cells.items };
 
-    ghost sound = { first_of (Prim.search rules, Prim.grind (arith, Self.row.coded.inj)) };
+    ghost sound = { Prim.search rules };
 
     fn read(&mut self) -> Result<u8, Refusal> {
         Err(Refusal::WrongWay)

@@ -49,7 +49,7 @@ impl TapeReader {
 impl Device for TapeReader {
     ghost meaning = { λ t. reader_of t.cells.items t.head };
 
-    ghost sound = { first_of (Prim.search rules, Prim.grind (arith, Self.row.coded.inj)) };
+    ghost sound = { Prim.search rules };
 
     fn read(&mut self) -> Result<u8, Refusal> {
         let at = usize::from(self.head);

@@ -1,5 +1,4 @@
-use Rattle.std.proofs.Common.{◌≡◌, ℕ, ◌/◌, ◌%◌, ◌^◌, ◌<◌, [], ◌∷◌, refl, ap, ◌∙◌, div-one, arith}
-use Rattle.word.specs.Symbols.{packed as word_packed}
+use Rattle.std.proofs.Common.{◌/◌, ◌%◌, ◌^◌, [], ◌∷◌, ap, div-one, arith}
 use Rattle.transfer.specs.Symbols.{packed, unpacked}
 use Rattle.examples.proofs.symbols_agree.Goals as goal
 

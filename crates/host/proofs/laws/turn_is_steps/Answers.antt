@@ -1,4 +1,4 @@
-use Rattle.host.proofs.Stepping.{turn_is_steps, steps_stay}
+use Rattle.host.proofs.Stepping.{turn_is_steps}
 use Rattle.host.proofs.laws.turn_is_steps.Goals as goal
 
 pub returns : goal.returns

@@ -1,4 +1,4 @@
-use Rattle.std.proofs.Common.{◌≡◌, length, sym, ap, ◌∙◌}
+use Rattle.std.proofs.Common.{length, sym, ap, ◌∙◌}
 use Rattle.order.specs.Cells.{cells}
 use Rattle.order.specs.Table.{row_cells}
 use Rattle.order.specs.declared.code.Order.TheVariants.{Store, Indexed, Transfer}

@@ -1,10 +1,10 @@
-use Rattle.std.proofs.Common.{◌≡◌, ℕ, Bool, true, false, not, ◌&&◌, ◌||◌, ltb, leb, List, length, Some, None, Option, sym, ap, ◌∙◌, subst}
+use Rattle.std.proofs.Common.{◌≡◌, ℕ, Bool, false, not, ◌&&◌, ◌||◌, ltb, leb, List, length, Some, Option, sym, ap, ◌∙◌, subst}
 use Rattle.device.specs.Meaning.{Meaning}
 use Rattle.word.specs.declared.q.Q.{Q}
 use Rattle.registers.specs.Registers.{q_of, regs_of}
 use Rattle.buffers.specs.Buffers.{records, is_busy, locked_between}
 use Rattle.outlook.specs.declared.bound.Bound.{Bound}
-use Rattle.outlook.specs.declared.bound.Bound.TheVariants.{NoBuffer, Limits, Busy, WordLock}
+use Rattle.outlook.specs.declared.bound.Bound.TheVariants.{NoBuffer}
 use Rattle.outlook.specs.Own.{Line, lines_of}
 use Rattle.outlook.specs.Bounds.{moves_words, asks_busy, first}
 use Rattle.outlook.proofs.Lines.{Held, held, is_there, not_there, same_work, locked_lines}

@@ -1,4 +1,4 @@
-use Rattle.std.proofs.Common.{◌≡◌, ℕ, Bool, Some, None, Ok, Err, Option, Result, sym, refl, ap, ◌∙◌}
+use Rattle.std.proofs.Common.{◌≡◌, ℕ, Bool, None, Ok, Err, Option, Result, sym, refl, ap, ◌∙◌}
 use Rattle.device.specs.Meaning.{Meaning}
 use Rattle.order.specs.declared.code.Order.{Order}
 use Rattle.order.specs.declared.code.Undecoded.{Undecoded}

@@ -1,4 +1,4 @@
-use Rattle.std.proofs.Common.{◌≡◌, ℕ, ◌/◌, Bool, sym, arith}
+use Rattle.std.proofs.Common.{ℕ, ◌/◌, Bool, sym, arith}
 use Rattle.buffers.specs.Buffers.{records, locked_between}
 use Rattle.buffers.specs.declared.buffer.Buffer.{Buffer}
 use Rattle.buffers.proofs.Found.{any_none, any_found, any_more, any_all}

@@ -1,4 +1,4 @@
-use Rattle.std.proofs.Common.{◌≡◌, sym, ap, ◌∙◌}
+use Rattle.std.proofs.Common.{sym, ap, ◌∙◌}
 use Rattle.device.specs.Bank.{standing}
 use Rattle.buffers.specs.Buffers.{records}
 use Rattle.outlook.specs.Own.{own_of}

@@ -1,12 +1,10 @@
-use Rattle.std.proofs.Common.{◌≡◌, ℕ, ◌<◌, ◌≤◌, true, false, leb, length, None, Option, sym, refl, ap, ◌∙◌, subst}
+use Rattle.std.proofs.Common.{◌≡◌, ◌≤◌, true, None, sym, ap, ◌∙◌, subst}
 use Rattle.std.proofs.lemmas.Bool.{leb-false}
-use Rattle.device.specs.Meaning.{Meaning}
-use Rattle.order.specs.declared.code.Order.{Order}
 use Rattle.order.specs.declared.code.Order.TheVariants.{Register, Store, Indexed, Transfer, Out}
 use Rattle.word.specs.declared.q.Q.{Q}
 use Rattle.device.specs.Bank.{standing}
 use Rattle.buffers.specs.Buffers.{records, holds}
-use Rattle.outlook.specs.Own.{Own, own_of}
+use Rattle.outlook.specs.Own.{own_of}
 use Rattle.registers.specs.Registers.{q_of, regs_of}
 use Rattle.program.specs.Effects.{done_order, transferred, moved_by, asked}
 use Rattle.program.proofs.Changes.{nothing_changed}

@@ -1,4 +1,4 @@
-use Rattle.std.proofs.Common.{◌≤◌, get_or, vec_items, vec_len, vec_capacity}
+use Rattle.std.proofs.Common.{◌≤◌, vec_items, vec_len, vec_capacity}
 use Rattle.device.specs.Bank.{standing}
 use Rattle.device.proofs.Standing.{Beside}
 use Rattle.tape_copy.proofs.Passing.{Going}

@@ -1,9 +1,8 @@
-use Rattle.std.proofs.Common.{◌≡◌, get_or, refl, arith}
+use Rattle.std.proofs.Common.{get_or, refl, arith}
 use Rattle.device.specs.Meaning.{Meaning, write_after}
 use Rattle.device.specs.Words.{words}
 use Rattle.device.specs.Bank.{standing}
 use Rattle.device.proofs.Standing.{standing_after, beside_none, beside_more, beside_all}
-use Rattle.tape_copy.specs.Copying.{written}
 use Rattle.tape_copy.proofs.Sending.{started, more, stopped, finished}
 use Rattle.tape_copy.proofs.writing.write_in.Goals as goal
 

@@ -1,4 +1,4 @@
-use Rattle.std.proofs.Common.{◌≡◌, ◌+◌, ◌-◌, sym, ap, ◌∙◌, inl, inr}
+use Rattle.std.proofs.Common.{◌+◌, ◌-◌, sym, ap, ◌∙◌, inl, inr}
 use Rattle.buffers.specs.Buffers.{any_below, locks}
 use Rattle.buffers.proofs.Found.{any_never}
 use Rattle.buffers.proofs.buffer.Work.locks_any.Goals as goal

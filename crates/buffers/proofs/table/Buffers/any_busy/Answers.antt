@@ -1,4 +1,4 @@
-use Rattle.std.proofs.Common.{◌≡◌, ◌&&◌, sym, arith}
+use Rattle.std.proofs.Common.{◌&&◌, sym, arith}
 use Rattle.buffers.specs.Buffers.{records, holds, is_busy}
 use Rattle.buffers.proofs.Found.{any_none, any_found, any_more, any_all}
 use Rattle.buffers.proofs.table.Buffers.any_busy.Goals as goal

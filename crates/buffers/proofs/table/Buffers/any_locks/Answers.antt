@@ -1,4 +1,4 @@
-use Rattle.std.proofs.Common.{◌≡◌, sym, ◌∙◌, arith}
+use Rattle.std.proofs.Common.{sym, ◌∙◌, arith}
 use Rattle.buffers.specs.Buffers.{records}
 use Rattle.buffers.proofs.Found.{any_none, any_found, any_more, any_all}
 use Rattle.buffers.proofs.Locks.{locks_here, by_words}

@@ -1,6 +1,5 @@
-use Rattle.std.proofs.Common.{◌≡◌, false, ◌&&◌}
-use Rattle.buffers.specs.Buffers.{records, holds, is_busy, is_moving, any_below}
-use Rattle.buffers.proofs.Locks.{locks_here}
+use Rattle.std.proofs.Common.{◌≡◌, false}
+use Rattle.buffers.specs.Buffers.{records, is_moving, any_below}
 use Rattle.buffers.proofs.table.Buffers.any_moving.Given as goal
 
 abbrev pub invariant-loop-k : goal.invariant-loop-k

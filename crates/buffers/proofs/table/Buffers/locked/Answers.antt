@@ -1,4 +1,4 @@
-use Rattle.std.proofs.Common.{◌≡◌, ◌∙◌}
+use Rattle.std.proofs.Common.{◌∙◌}
 use Rattle.buffers.proofs.Locks.{quiet_unlocked}
 use Rattle.buffers.proofs.table.Buffers.locked.Goals as goal
 

@@ -1,4 +1,4 @@
-use Rattle.std.proofs.Common.{codes, sym, ap, ◌∙◌}
+use Rattle.std.proofs.Common.{codes, sym, ap}
 use Rattle.host.specs.Causes.{cause_name, cause_of}
 use Rattle.host.proofs.cause.Cause.name.Goals as goal
 

@@ -1,5 +1,4 @@
-use Rattle.std.proofs.Common.{◌≡◌, ℕ, ◌+◌, ◌≤◌, Bool, length, Ok, Err, Option, sym, refl, ap, ◌∙◌, arith}
-use Rattle.device.specs.Meaning.{Meaning}
+use Rattle.std.proofs.Common.{Ok, Err, sym, ap, ◌∙◌, arith}
 use Rattle.buffers.specs.Buffers.{records}
 use Rattle.slots.specs.Ahead.{ahead_of}
 use Rattle.slots.proofs.Orders.{ahead_is}

@@ -1,4 +1,4 @@
-use Rattle.std.proofs.Common.{◌≡◌, sym, ap, ◌∙◌, arith}
+use Rattle.std.proofs.Common.{sym, ap, ◌∙◌, arith}
 use Rattle.buffers.specs.Buffers.{records}
 use Rattle.slots.specs.Ahead.{ahead_of}
 use Rattle.slots.proofs.Tables.{there}

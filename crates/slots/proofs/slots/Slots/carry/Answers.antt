@@ -1,4 +1,4 @@
-use Rattle.std.proofs.Common.{◌≡◌, get_or, sym, ap, ◌∙◌, arith}
+use Rattle.std.proofs.Common.{get_or, ap, ◌∙◌, arith}
 use Rattle.buffers.specs.Buffers.{records}
 use Rattle.device.specs.Bank.{standing}
 use Rattle.program.specs.Told.{told}

@@ -2,7 +2,7 @@
 ghost use Rattle.std.specs.Prelude.{◌≡◌, ◌≤◌, length, replicate};
 ghost use Rattle.device.specs.Meaning.{Below};
 ghost use Rattle.units.specs.Units.{drum_of};
-ghost use Rattle.std.proofs.Common.{rules, arith};
+ghost use Rattle.std.proofs.Common.{rules};
 
 use device::device::Device;
 use device::refusal::{Refusal, Writing};

@@ -2,7 +2,7 @@
 ghost use Rattle.std.specs.Prelude.{◌≡◌, ◌≤◌, [], IfOk, vec_len, vec_capacity};
 ghost use Rattle.device.specs.Meaning.{Below};
 ghost use Rattle.units.specs.Units.{punch_of};
-ghost use Rattle.std.proofs.Common.{rules, arith};
+ghost use Rattle.std.proofs.Common.{rules};
 
 use device::device::Device;
 use device::refusal::{Refusal, Writing};

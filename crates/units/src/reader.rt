@@ -3,7 +3,7 @@ ghost use Rattle.std.specs.Prelude.{◌≡◌, ◌≤◌, [], IfOk, vec_len, vec
 ghost use Rattle.device.specs.Meaning.{Below};
 ghost use Rattle.device.specs.Words.{numbered};
 ghost use Rattle.units.specs.Units.{reader_of, fill_answer, filled};
-ghost use Rattle.std.proofs.Common.{rules, arith};
+ghost use Rattle.std.proofs.Common.{rules};
 
 use super::marks::cell_of;
 use device::device::Device;

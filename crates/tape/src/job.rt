@@ -1,6 +1,6 @@
 // The job: the tape to the drum and compared, to the punch, and what was punched to the copy.
+use super::failure::Failure;
 use super::report::{print_damaged, print_text};
-use anyhow::anyhow;
 use device::bank::{Bank, EmptyBank};
 use device::buffer::BufferNumber;
 use device::device::Device;
@@ -22,7 +22,7 @@ const PUNCH: u8 = 2;
 // The reader above the drum above the punch.
 type Devices = Plugged<TapeReader, Plugged<Drum, Plugged<Punch, EmptyBank>>>;
 
-pub(crate) fn copy_tape(rt: &HostRuntime, from: &str, to: &str) -> anyhow::Result<()> {
+pub(crate) fn copy_tape(rt: &HostRuntime, from: &str, to: &str) -> Result<(), Failure> {
     let mut bank = devices(rt, from)?;
     let tape = read_out(rt.alloc(), &mut bank, READER)?;
     print_damaged(rt, tape.damaged.as_slice())?;
@@ -36,16 +36,18 @@ pub(crate) fn copy_tape(rt: &HostRuntime, from: &str, to: &str) -> anyhow::Resul
     fs::write(rt, to, frames.as_slice())?;
     let count = frames.len();
     println!(rt; "copy: {count} frames written to {to}")?;
-    print_text(rt, symbols)
+    print_text(rt, symbols)?;
+    Ok(())
 }
 
 // A reader filled from the file, a drum and a punch, each on its buffer.
-fn devices(rt: &HostRuntime, from: &str) -> anyhow::Result<Devices> {
+fn devices(rt: &HostRuntime, from: &str) -> Result<Devices, Failure> {
     let frames = match fs::read(rt, from) {
         Ok(frames) => frames,
-        Err(e) => return Err(anyhow!(format!(in rt.alloc();
-            "cannot read {from}: {e}; name a file of frames"
-        )?)),
+        Err(reason) => {
+            let path = from.to_string(rt.alloc())?;
+            return Err(Failure::Unreadable { path, reason });
+        }
     };
     let count = frames.len();
     println!(rt; "tape: {count} frames in {from}")?;
@@ -67,7 +69,7 @@ fn write_all<B: Bank>(
     name: &str,
     buffer: u8,
     symbols: &[u8],
-) -> anyhow::Result<()> {
+) -> Result<(), Failure> {
     let written = write_in(bank, buffer, symbols);
     let count = written.count;
     println!(rt; "{name}: {count} symbols written")?;
@@ -78,7 +80,7 @@ fn write_all<B: Bank>(
 }
 
 // Puts symbols on the drum from its first cell on, reads them back and compares.
-fn keep_on_drum<B: Bank>(rt: &HostRuntime, bank: &mut B, symbols: &[u8]) -> anyhow::Result<()> {
+fn keep_on_drum<B: Bank>(rt: &HostRuntime, bank: &mut B, symbols: &[u8]) -> Result<(), Failure> {
     bank.seek(DRUM, 0)?;
     write_all(rt, bank, "drum", DRUM, symbols)?;
     bank.seek(DRUM, 0)?;
@@ -86,7 +88,7 @@ fn keep_on_drum<B: Bank>(rt: &HostRuntime, bank: &mut B, symbols: &[u8]) -> anyh
     let kept = back.symbols.as_slice();
     let count = symbols.len();
     if kept.len() < count || &kept[0..count] != symbols {
-        return Err(anyhow!("the drum gave back other symbols: the copy is not written"));
+        return Err(Failure::OtherSymbols);
     }
     println!(rt; "drum: {count} symbols read back as they were written")?;
     Ok(())

@@ -12,7 +12,7 @@ use Rattle.program.specs.Kept.{update}
 use Rattle.program.proofs.Changes.{set_update}
 use Rattle.host.specs.World.{World, put_part}
 use Rattle.host.specs.Numbers.{Answer}
-use Rattle.host.specs.Numbers.Answer.{refused}
+use Rattle.host.specs.Numbers.Answer.{granted, refused}
 use Rattle.host.specs.Calls.{Call, refusal, grant, by_check, perform, made, image_words, fresh, loaded, with_buffer, dismissed}
 use Rattle.slots.specs.Held.{program_at, world_of}
 use Rattle.slots.specs.declared.slots.Slots.{Slots}
@@ -23,8 +23,8 @@ use Rattle.slots.proofs.Orders.{part_written}
 pub refused_by : (c : Call) (w : World) (n : ℕ) → Some n ≡ refusal c w → ◌≡◌ {A = World × Answer} (w, refused n) (perform c w)
 refused_by c w n e = ap (by_check c w) e
 
-pub granted_by : (c : Call) (w : World) → None ≡ refusal c w → grant c w ≡ perform c w
-granted_by c w e = ap (by_check c w) e
+pub granted_by : (c : Call) (w v x : World) → v ≡ x → ◌≡◌ {A = World × Answer} (x, granted) (grant c w) → None ≡ refusal c w → ◌≡◌ {A = World × Answer} (v, granted) (perform c w)
+granted_by c w v x e g h = ap (λ (y : World). (y, granted)) e ∙ g ∙ ap (by_check c w) h
 
 -- a table of free buffers
 all_free : (n k : ℕ) (table : List Buffer) → length table ≡ n → table ≡ replicate n free → get_or table k free ≡ free

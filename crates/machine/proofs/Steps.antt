@@ -1,5 +1,5 @@
 -- From what the code does to the steps of a turn.
-use Rattle.std.proofs.Common.{◌≡◌, ℕ, suc, ◌+◌, ◌<◌, ◌≤◌, Bool, true, false, cond, not, ltb, List, length, is_some, Some, None, Ok, Err, Option, Result, sym, refl, ap, ◌∙◌, ap₂, inl, inr, arith}
+use Rattle.std.proofs.Common.{◌≡◌, ℕ, suc, ◌+◌, ◌^◌, ◌<◌, ◌≤◌, Bool, true, false, cond, not, ltb, List, length, is_some, Some, None, Ok, Err, Option, Result, sym, refl, ap, ◌∙◌, ap₂, inl, inr, arith}
 use Rattle.std.proofs.Math.Numerals.{suc-eq-add-one}
 use Rattle.std.proofs.lemmas.Bool.{cond-true, cond-false, le-ltb, ltb-false}
 use Rattle.device.specs.Meaning.{Meaning}
@@ -12,14 +12,17 @@ use Rattle.program.specs.Kept.{update}
 use Rattle.program.specs.Told.{Told}
 use Rattle.program.specs.Told.Told.{broke}
 use Rattle.host.specs.World.{World, Program, own_in, with_own, put}
-use Rattle.host.specs.Causes.{Ending, endings_of}
-use Rattle.host.specs.Calls.{step_checks, first_failing, is_stopped, cut_off}
+use Rattle.host.specs.Causes.{Ending, Report, endings_of}
+use Rattle.host.specs.Numbers.{Answer}
+use Rattle.host.specs.Numbers.Answer.{ended}
+use Rattle.host.specs.Calls.Call.{turn}
+use Rattle.host.specs.Calls.{step_checks, first_failing, is_stopped, cut_off, refusal, perform}
 use Rattle.host.specs.Turns.{try, stops, stopped, left_by}
-use Rattle.host.specs.Steps.{Token, StepAnswer, Stepped, by_ending, step_on, step_checked, step_in, stepped, tried_by, told_of, place_in, place_of, steps}
+use Rattle.host.specs.Steps.{Token, StepAnswer, Stepped, by_ending, step_on, step_checked, step_in, stepped, tried_by, told_of, place_in, place_of, steps, entered, handed_back}
 use Rattle.host.specs.Steps.StepAnswer.{gave, turned_down}
 use Rattle.host.specs.declared.cause.Ending.{Ending as ToldEnding}
 use Rattle.host.proofs.Lens.{update_same, update_twice}
-use Rattle.host.proofs.Stepping.{Granted, step_passes, put_own, steps_stay}
+use Rattle.host.proofs.Stepping.{Granted, step_passes, put_own, steps_stay, turn_is_steps}
 use Rattle.slots.specs.Ahead.{seen, ahead_of}
 use Rattle.slots.specs.Held.{halted, state_of, ready_or_stopped}
 use Rattle.slots.specs.declared.slots.Ahead.{Ahead}
@@ -44,11 +47,11 @@ abbrev pub answers_state : ℕ → World → Option State
 answers_state p w = cond (ltb 3 p) None (Some (state_of (w.slots p)))
 
 pub fails_over : (p : ℕ) (w : World) → None ≡ answers_state p w → first_failing (step_checks p w) ≡ Some 1
-fails_over p w e = at (ltb 3 p) e
+fails_over p w e = cond-true (ltb 3 p) (Some 1) _ (over (ltb 3 p) (state_of (w.slots p)) e)
   where
-    at : (b : Bool) → None ≡ cond b None (Some (state_of (w.slots p))) → cond b (Some 1) _ ≡ Some 1
-    at true e = refl
-    at false e = let z : ◌≡◌ {A = ℕ} 0 1 = cc in absurd (omega arith)
+    over : (b : Bool) (x : State) → None ≡ cond b None (Some x) → b ≡ true
+    over true x e = refl
+    over false x e = let z : ◌≡◌ {A = ℕ} 0 1 = cc in absurd (omega arith)
 
 answered : (b : Bool) (s x : State) → Some s ≡ cond b None (Some x) → (b ≡ false) × (s ≡ x)
 answered true s x e = let z : ◌≡◌ {A = ℕ} 0 1 = cc in absurd (omega arith)
@@ -161,13 +164,13 @@ pub tried_breaks : (p : ℕ) (w : World) (bound : Bound) → IsReady p w → Fou
 unfolding try
 tried_breaks p w bound h found =
     let b = breaks _ bound _ (ahead_here p w (Breaks bound) h found) in
-    let granted = granted_breaks p w bound h found in
+    let inside : h.program.base + h.program.size ≤ length w.store = ltb-false _ _ b.0 in
     let q = own_in p h.program w in
     let e : try q ≡ (q, broke bound) = ap (λ r. tried r q) b.1 in
     sym (
       ap (tried_by p w) h.there
       ∙ ap (λ (r : Own × Told). (put p h.program r.0 w, r.1)) e
-      ∙ ap (λ (v : World). (v, broke bound)) (put_own p h.program w h.there granted.inside)
+      ∙ ap (λ (v : World). (v, broke bound)) (put_own p h.program w h.there inside)
     )
 
 -- the program stopped where it has to be
@@ -231,3 +234,17 @@ has_ended k n t u w y o h e same some = at (endings_of o) same (sym (is_some_end
     at : (d : Option Ending) → u.ending ≡ d → is_some d ≡ true → ◌≡◌ {A = World × Token} (y, u) (steps n t w)
     at None there s = let z : ◌≡◌ {A = ℕ} 0 1 = cc in absurd (omega arith)
     at (Some d) there s = e ∙ sym (steps_stay k n t w d h (ap (λ (x : World × Token). x.1.ending) (sym e) ∙ there))
+
+-- a whole turn
+pub turn_ran :
+    (p n : ℕ) (w y : World) (t u : Token) (r : Report)
+    → n < 2 ^ 64
+    → None ≡ refusal (turn p n) w
+    → t ≡ entered p
+    → ◌≡◌ {A = World × Token} (y, u) (steps n t w)
+    → r ≡ handed_back u y
+    → ◌≡◌ {A = World × Answer} (y, ended r) (perform (turn p n) w)
+turn_ran p n w y t u r small granted begun ran told =
+    ap (λ x. (y, ended x)) told
+    ∙ ap (λ (x : World × Token). (x.0, ended (handed_back x.1 x.0))) (ran ∙ ap (λ x. steps n x w) begun)
+    ∙ turn_is_steps p n w small (sym granted)

@@ -1,7 +1,8 @@
-use Rattle.std.proofs.Common.{◌<◌, refl, ap, ◌∙◌, arith}
-use Rattle.host.specs.World.{World}
+use Rattle.std.proofs.Common.{◌<◌, refl, arith}
+use Rattle.buffers.specs.Buffers.{records, with_work}
+use Rattle.buffers.specs.declared.buffer.Work.TheVariants.{Idle}
+use Rattle.host.specs.Calls.{with_buffer}
 use Rattle.host.specs.Calls.Call.{end}
-use Rattle.host.specs.Numbers.Answer.{granted}
 use Rattle.machine.specs.Shown.{shown}
 use Rattle.machine.proofs.Calls.{refused_by, granted_by, buffer_shown}
 use Rattle.machine.proofs.machine.Machine.end.Goals as goal
@@ -11,8 +12,10 @@ returns-in-Some g c store = refused_by (end c.args.buffer) (shown g.B.Bank.devic
 
 pub returns-in-None : goal.returns-in-None
 returns-in-None g c store =
+    let w = shown g.B.Bank.devices store c.args.self.now in
+    let b = with_work Idle (records c.args.self.now.buffers.table c.args.buffer) in
     let below : c.args.buffer < 16 = c.in-None.ensures.within refl in
-    ap (λ (w : World). (w, granted))
-    (buffer_shown store c.args.self.now.slots c.args.self.now.buffers.table c.end.new.self.table (g.B.Bank.devices c.args.self.now.bank) c.args.buffer _
+    granted_by (end c.args.buffer) w _ (with_buffer c.args.buffer b w)
+    (buffer_shown store c.args.self.now.slots c.args.self.now.buffers.table c.end.new.self.table (g.B.Bank.devices c.args.self.now.bank) c.args.buffer b
     (omega (arith, c.args.self.now.buffers.sixteen)) c.end.ensures)
-    ∙ granted_by (end c.args.buffer) (shown g.B.Bank.devices store c.args.self.now) (c.in-None.ensures.first store)
+    refl (c.in-None.ensures.first store)

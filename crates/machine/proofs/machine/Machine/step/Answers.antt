@@ -1,4 +1,6 @@
-use Rattle.std.proofs.Common.{refl, ap, ◌∙◌, sym}
+use Rattle.std.proofs.Common.{◌≡◌, Some, refl, ap, ◌∙◌, sym}
+use Rattle.slots.specs.declared.slots.State.TheVariants.{Empty, Ready, Stopped}
+use Rattle.slots.specs.declared.slots.Ahead.TheVariants.{NoStore, Breaks, Does}
 use Rattle.program.specs.Told.{told}
 use Rattle.program.specs.Told.Told.{broke}
 use Rattle.host.specs.Causes.{ending_of, endings_of}
@@ -18,38 +20,44 @@ returns-in-None-None-default g c =
 
 pub returns-in-Some-Empty-None-default : goal.returns-in-Some-Empty-None-default
 returns-in-Some-Empty-None-default g c =
+    let s : c.state.result ≡ Some Empty = cc in
     let w = shown g.B.Bank.devices c.args.store.now c.args.self.now in
     refused_step (token_of c.args.turn.now) w 10 (ap endings_of c.in-Some-Empty-None-default.is-1)
-    (fails_empty c.args.turn.now.slot w c.in-Some-Empty-None-default.ensures)
+    (fails_empty c.args.turn.now.slot w (sym s ∙ c.state.ensures))
 
 pub returns-in-Some-Stopped-None-default : goal.returns-in-Some-Stopped-None-default
 returns-in-Some-Stopped-None-default g c =
+    let s : c.state.result ≡ Some Stopped = cc in
     let w = shown g.B.Bank.devices c.args.store.now c.args.self.now in
     refused_step (token_of c.args.turn.now) w 15 (ap endings_of c.in-Some-Stopped-None-default.is-1)
-    (fails_stopped c.args.turn.now.slot w c.in-Some-Stopped-None-default.ensures)
+    (fails_stopped c.args.turn.now.slot w (sym s ∙ c.state.ensures))
 
 pub returns-in-Some-Ready-None-NoStore : goal.returns-in-Some-Ready-None-NoStore
 returns-in-Some-Ready-None-NoStore g c =
+    let s : c.state.result ≡ Some Ready = cc in
     let w = shown g.B.Bank.devices c.args.store.now c.args.self.now in
-    let h = ready_there c.args.turn.now.slot w c.in-Some-Ready-None-NoStore.ensures in
+    let h = ready_there c.args.turn.now.slot w (sym s ∙ c.state.ensures) in
+    let a : c.ahead.result ≡ NoStore = cc in
     refused_step (token_of c.args.turn.now) w 16 (ap endings_of c.in-Some-Ready-None-NoStore.is-1)
-    (fails_short c.args.turn.now.slot w h c.in-Some-Ready-None-NoStore.ensures')
+    (fails_short c.args.turn.now.slot w h (λ ready bank below. sym a ∙ c.ahead.ensures ready bank below))
 
 pub returns-in-Some-Ready-None-Breaks : goal.returns-in-Some-Ready-None-Breaks
 returns-in-Some-Ready-None-Breaks g c =
+    let s : c.state.result ≡ Some Ready = cc in
     let t = c.args.turn.now in
     let w = shown g.B.Bank.devices c.args.store.now c.args.self.now in
     let b = c.in-Some-Ready-None-Breaks.bound in
-    let h = ready_there t.slot w c.in-Some-Ready-None-Breaks.ensures in
+    let h = ready_there t.slot w (sym s ∙ c.state.ensures) in
     let found = c.in-Some-Ready-None-Breaks.ensures' in
     step_settled (token_of t) (token_of c.settle.new.turn) w w (shown g.B.Bank.devices c.args.store.now c.settle.new.self) (broke b) c.place-place.result
     (granted_breaks t.slot w b h found) (ap endings_of c.in-Some-Ready-None-Breaks.is-1) (tried_breaks t.slot w b h found) c.place-place.ensures (c.settle.ensures c.args.store.now)
 
 pub returns-in-Some-Ready-None-Does : goal.returns-in-Some-Ready-None-Does
 returns-in-Some-Ready-None-Does g c =
+    let s : c.state.result ≡ Some Ready = cc in
     let t = c.args.turn.now in
     let w = shown g.B.Bank.devices c.args.store.now c.args.self.now in
-    let h = ready_there t.slot w c.in-Some-Ready-None-Does.ensures in
+    let h = ready_there t.slot w (sym s ∙ c.state.ensures) in
     let found = c.in-Some-Ready-None-Does.ensures' in
     step_settled (token_of t) (token_of c.settle-in-Some-Ready-None-Does.new.turn) w _ (shown g.B.Bank.devices c.carry-outcome.new.store c.settle-in-Some-Ready-None-Does.new.self) (told c.carry-outcome.result) c.place-place.result
     (granted_does t.slot w c.in-Some-Ready-None-Does.next h found) (ap endings_of c.in-Some-Ready-None-Does.is-1) c.carry-outcome.ensures c.place-place.ensures (c.settle-in-Some-Ready-None-Does.ensures c.carry-outcome.new.store)

@@ -1,5 +1,5 @@
 -- From what the code does to the steps of a turn.
-use Rattle.std.proofs.Common.{◌≡◌, ℕ, suc, ◌+◌, ◌^◌, ◌<◌, ◌≤◌, Bool, true, false, cond, not, ltb, List, length, is_some, Some, None, Ok, Err, Option, Result, sym, refl, ap, ◌∙◌, ap₂, inl, inr, arith}
+use Rattle.std.proofs.Common.{◌≡◌, ℕ, ◌+◌, ◌^◌, ◌<◌, ◌≤◌, Bool, true, false, cond, not, ltb, length, is_some, Some, None, Ok, Err, Option, Result, sym, refl, ap, ◌∙◌, ap₂, arith}
 use Rattle.std.proofs.Math.Numerals.{suc-eq-add-one}
 use Rattle.std.proofs.lemmas.Bool.{cond-true, cond-false, le-ltb, ltb-false}
 use Rattle.device.specs.Meaning.{Meaning}
@@ -168,9 +168,9 @@ tried_breaks p w bound h found =
     let q = own_in p h.program w in
     let e : try q ≡ (q, broke bound) = ap (λ r. tried r q) b.1 in
     sym (
-      ap (tried_by p w) h.there
-      ∙ ap (λ (r : Own × Told). (put p h.program r.0 w, r.1)) e
-      ∙ ap (λ (v : World). (v, broke bound)) (put_own p h.program w h.there inside)
+    ap (tried_by p w) h.there
+    ∙ ap (λ (r : Own × Told). (put p h.program r.0 w, r.1)) e
+    ∙ ap (λ (v : World). (v, broke bound)) (put_own p h.program w h.there inside)
     )
 
 -- the program stopped where it has to be
@@ -205,9 +205,9 @@ step_settled t t' w tried_world w' x place granted none was placed settled =
     (settled.world ∙ ap (λ (y : World × Told). cond (stops y.1) (stopped_in t.slot y.0) y.0) e ∙ settled_put t.slot g w r)
     (settled.token ∙ ap₂ (told_of t) at (ap (λ (y : World × Told). y.1) e))
     ∙ sym (
-      ap (λ y. step_on y t w) none
-      ∙ ap (step_checked t w) (step_passes t.slot w g granted.number granted.there granted.ready granted.inside)
-      ∙ ap (step_in t w) granted.there
+    ap (λ y. step_on y t w) none
+    ∙ ap (step_checked t w) (step_passes t.slot w g granted.number granted.there granted.ready granted.inside)
+    ∙ ap (step_in t w) granted.there
     )
 
 -- steps one after another

@@ -1,6 +1,6 @@
-use Rattle.std.proofs.Common.{◌≡◌, Some, refl, ap, ◌∙◌, sym}
+use Rattle.std.proofs.Common.{◌≡◌, Some, ap, ◌∙◌, sym}
+use Rattle.slots.specs.Held.{world_of}
 use Rattle.slots.specs.declared.slots.State.TheVariants.{Empty, Ready, Stopped}
-use Rattle.slots.specs.declared.slots.Ahead.TheVariants.{NoStore, Breaks, Does}
 use Rattle.program.specs.Told.{told}
 use Rattle.program.specs.Told.Told.{broke}
 use Rattle.host.specs.Causes.{ending_of, endings_of}
@@ -37,9 +37,8 @@ returns-in-Some-Ready-None-NoStore g c =
     let s : c.state.result ≡ Some Ready = cc in
     let w = shown g.B.Bank.devices c.args.store.now c.args.self.now in
     let h = ready_there c.args.turn.now.slot w (sym s ∙ c.state.ensures) in
-    let a : c.ahead.result ≡ NoStore = cc in
     refused_step (token_of c.args.turn.now) w 16 (ap endings_of c.in-Some-Ready-None-NoStore.is-1)
-    (fails_short c.args.turn.now.slot w h (λ ready bank below. sym a ∙ c.ahead.ensures ready bank below))
+    (fails_short c.args.turn.now.slot w h c.in-Some-Ready-None-NoStore.ensures')
 
 pub returns-in-Some-Ready-None-Breaks : goal.returns-in-Some-Ready-None-Breaks
 returns-in-Some-Ready-None-Breaks g c =
@@ -59,5 +58,7 @@ returns-in-Some-Ready-None-Does g c =
     let w = shown g.B.Bank.devices c.args.store.now c.args.self.now in
     let h = ready_there t.slot w (sym s ∙ c.state.ensures) in
     let found = c.in-Some-Ready-None-Does.ensures' in
-    step_settled (token_of t) (token_of c.settle-in-Some-Ready-None-Does.new.turn) w _ (shown g.B.Bank.devices c.carry-outcome.new.store c.settle-in-Some-Ready-None-Does.new.self) (told c.carry-outcome.result) c.place-place.result
+    let carried = world_of c.carry-outcome.new.store c.carry-outcome.new.self c.carry-outcome.new.buffers.table (g.B.Bank.devices c.carry-outcome.new.bank) in
+    step_settled (token_of t) (token_of c.settle-in-Some-Ready-None-Does.new.turn) w carried
+    (shown g.B.Bank.devices c.carry-outcome.new.store c.settle-in-Some-Ready-None-Does.new.self) (told c.carry-outcome.result) c.place-place.result
     (granted_does t.slot w c.in-Some-Ready-None-Does.next h found) (ap endings_of c.in-Some-Ready-None-Does.is-1) c.carry-outcome.ensures c.place-place.ensures (c.settle-in-Some-Ready-None-Does.ensures c.carry-outcome.new.store)

@@ -2,7 +2,7 @@
 --
 -- word_of     the word at an address of a program's area; none past the area or the store
 -- busy-at     whether a buffer is busy
-use Rattle.std.specs.Prelude.{ℕ, ◌+◌, ◌%◌, ◌^◌, Bool, cond, ◌&&◌, List, length, Some, None, Option, nat_lt, slice_index}
+use Rattle.std.specs.Prelude.{ℕ, ◌+◌, ◌%◌, ◌^◌, cond, ◌&&◌, List, length, Some, None, Option, nat_lt, slice_index}
 use Rattle.host.specs.World.{Program}
 
 -- an entry is taken modulo 2^48

@@ -1,8 +1,8 @@
 -- What an order of a turn came to, noted in the turn's token, and its program stopped where that has to be.
-use Rattle.std.specs.Prelude.{◌≡◌, ℕ, cond, Some, None, Option}
+use Rattle.std.specs.Prelude.{◌≡◌, ℕ, cond}
 use Rattle.program.specs.Kept.{update}
 use Rattle.program.specs.Told.{Told}
-use Rattle.host.specs.World.{World, Program}
+use Rattle.host.specs.World.{World}
 use Rattle.host.specs.Turns.{stops}
 use Rattle.host.specs.Steps.{Token, told_of}
 use Rattle.slots.specs.Held.{halted}

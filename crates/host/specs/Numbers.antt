@@ -2,7 +2,8 @@
 --
 -- number_of    the number of each refusal
 -- Answer       granted; a turn's report; or refused by a number
--- answered, told-report, told-answer    the same, as the code answers it
+-- answered, reported    the same, as the code answers it
+-- first_number     the number of the refusal that a check gives, if it gives one
 use Rattle.std.specs.Prelude.{ℕ, Some, None, Ok, Err, Option, Result}
 use Rattle.host.specs.Causes.{Report, report_of}
 use Rattle.host.specs.declared.cause.Report.{Report as ToldReport}

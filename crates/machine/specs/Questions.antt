@@ -1,7 +1,6 @@
 -- What a host can ask of a machine without changing it.
 --
 -- word_of     the word at an address of a program's area; none past the area or the store
--- busy-at     whether a buffer is busy
 use Rattle.std.specs.Prelude.{ℕ, ◌+◌, ◌%◌, ◌^◌, cond, ◌&&◌, List, length, Some, None, Option, nat_lt, slice_index}
 use Rattle.host.specs.World.{Program}
 

@@ -8,7 +8,7 @@
 --   put_q q x    x written into Q number q
 --   go_if b a    a jump to place a if b; overflow_if b: V set if b
 --   push_number  the word of a number onto the nest, V set if the number is that of no word
---   with-..      one register replaced
+--   with_..      one register replaced
 use Rattle.std.specs.Prelude.{ℕ, Bool, false, cond, ◌||◌, List, [], ◌∷◌, map, ℤ}
 use Rattle.word.specs.Wrap.{wrap, signed, outside}
 use Rattle.word.specs.declared.q.Q.{Q}

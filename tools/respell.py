@@ -1,5 +1,5 @@
 #!/usr/bin/env python3
-"""Respells the repository's own names as today's Rattle spells them; run once, after /opt/rattle/port/port.py, at the top.
+"""Respells the repository's own names as today's Rattle spells them; run once, after the kit's port.py, at the top.
 
 usage: python3 tools/respell.py
 

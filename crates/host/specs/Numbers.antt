@@ -1,10 +1,12 @@
 -- What a host's call answers.
 --
 -- number_of    the number of each refusal
+-- words        what is wrong, for a person
 -- Answer       granted; a turn's report; or refused by a number
 -- answered, reported    the same, as the code answers it
 -- first_number     the number of the refusal that a check gives, if it gives one
 use Rattle.std.specs.Prelude.{ℕ, Some, None, Ok, Err, Option, Result}
+use Prim.Native.String.{String}
 use Rattle.host.specs.Causes.{Report, report_of}
 use Rattle.host.specs.declared.cause.Report.{Report as ToldReport}
 use Rattle.host.specs.declared.refusal.Refusal.{Refusal}
@@ -25,6 +27,22 @@ number_of BufferBusy = 13
 number_of NotBusy = 14
 number_of SlotStopped = 15
 number_of StoreShort = 16
+
+abbrev pub words : Refusal → String
+words SlotOver3 = "slot is over 3"
+words BufferOver15 = "buffer is over 15"
+words AreaShape = "base or size is no multiple of 32, or size is 0"
+words AreaPast = "area passes the end of the store or word 32768"
+words ImageLong = "image is longer than 6 bytes for each word of the area"
+words SlotInUse = "slot is in use"
+words AreaOverlaps = "area overlaps another"
+words SlotEmpty = "slot is empty"
+words BufferTaken = "buffer is taken"
+words NothingThere = "nothing stands on the buffer"
+words BufferBusy = "a buffer of the slot is busy"
+words NotBusy = "buffer is not busy"
+words SlotStopped = "slot is stopped"
+words StoreShort = "store ends before the area"
 
 pub data Answer : Type 0 where
   granted : Answer

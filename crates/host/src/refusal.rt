@@ -1,6 +1,6 @@
 // Why a host's call is refused.
-ghost use Rattle.std.specs.Prelude.{◌≡◌};
-ghost use Rattle.host.specs.Numbers.{number_of};
+ghost use Rattle.std.specs.Prelude.{◌≡◌, codes};
+ghost use Rattle.host.specs.Numbers.{number_of, words};
 
 use std::error::Error;
 use std::fmt;
@@ -46,7 +46,9 @@ impl Refusal {
     }
 
     // What is wrong.
-    pub fn words(self) -> &'static str {
+    pub fn words(self) -> &'static str
+        ensures { result.now ≡ codes (words self) }
+    {
         match self {
             Refusal::SlotOver3 => "slot is over 3",
             Refusal::BufferOver15 => "buffer is over 15",

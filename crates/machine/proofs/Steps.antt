@@ -53,9 +53,10 @@ fails_over p w e = cond-true (ltb 3 p) (Some 1) _ (over (ltb 3 p) (state_of (w.s
     over true x e = refl
     over false x e = let z : ◌≡◌ {A = ℕ} 0 1 = cc in absurd (omega arith)
 
-answered : (b : Bool) (s x : State) → Some s ≡ cond b None (Some x) → (b ≡ false) × (s ≡ x)
-answered true s x e = let z : ◌≡◌ {A = ℕ} 0 1 = cc in absurd (omega arith)
-answered false s x e = (refl, cc)
+-- a state is given for a number up to 3, and it is the slot's
+state_given : (b : Bool) (s x : State) → Some s ≡ cond b None (Some x) → (b ≡ false) × (s ≡ x)
+state_given true s x e = let z : ◌≡◌ {A = ℕ} 0 1 = cc in absurd (omega arith)
+state_given false s x e = (refl, cc)
 
 never_empty : (b : Bool) → Empty ≡ ready_or_stopped b → ⊥
 never_empty true e = let z : ◌≡◌ {A = ℕ} 0 1 = cc in omega arith
@@ -69,6 +70,7 @@ not_ready : (b : Bool) → Stopped ≡ ready_or_stopped b → b ≡ false
 not_ready true e = let z : ◌≡◌ {A = ℕ} 0 1 = cc in absurd (omega arith)
 not_ready false e = refl
 
+-- the first check of a step that fails, but for that of the number, by what is in the slot
 abbrev checks_of : ℕ → Option Program → Option ℕ
 checks_of words o = cond (not (is_some o)) (Some 10) (cond (is_stopped o) (Some 15) (cond (cut_off words o) (Some 16) None))
 
@@ -77,7 +79,7 @@ checked_as p w o b there = cond-false (ltb 3 p) (Some 1) _ b ∙ ap (checks_of (
 
 pub fails_empty : (p : ℕ) (w : World) → Some Empty ≡ answers_state p w → first_failing (step_checks p w) ≡ Some 10
 fails_empty p w e =
-    let a = answered (ltb 3 p) Empty (state_of (w.slots p)) e in
+    let a = state_given (ltb 3 p) Empty (state_of (w.slots p)) e in
     at (w.slots p) refl a.0 a.1
   where
     at : (o : Option Program) → w.slots p ≡ o → ltb 3 p ≡ false → Empty ≡ state_of o → first_failing (step_checks p w) ≡ Some 10
@@ -86,7 +88,7 @@ fails_empty p w e =
 
 pub fails_stopped : (p : ℕ) (w : World) → Some Stopped ≡ answers_state p w → first_failing (step_checks p w) ≡ Some 15
 fails_stopped p w e =
-    let a = answered (ltb 3 p) Stopped (state_of (w.slots p)) e in
+    let a = state_given (ltb 3 p) Stopped (state_of (w.slots p)) e in
     at (w.slots p) refl a.0 a.1
   where
     at : (o : Option Program) → w.slots p ≡ o → ltb 3 p ≡ false → Stopped ≡ state_of o → first_failing (step_checks p w) ≡ Some 15
@@ -102,7 +104,7 @@ pub record IsReady (p : ℕ) (w : World) : Type 0 where
 
 pub ready_there : (p : ℕ) (w : World) → Some Ready ≡ answers_state p w → IsReady p w
 ready_there p w e =
-    let a = answered (ltb 3 p) Ready (state_of (w.slots p)) e in
+    let a = state_given (ltb 3 p) Ready (state_of (w.slots p)) e in
     at (w.slots p) refl a.0 a.1
   where
     at : (o : Option Program) → w.slots p ≡ o → ltb 3 p ≡ false → Ready ≡ state_of o → IsReady p w

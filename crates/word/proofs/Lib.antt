@@ -1,6 +1,5 @@
 pub mod Powers
 pub mod Wrapping
-pub mod Undone
 pub mod Shifts
 pub mod Scale
 pub mod Round

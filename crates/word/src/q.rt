@@ -6,7 +6,7 @@ use crate::word::Word;
 
 const PART: u64 = 0x1_0000;
 
-#[derive(Clone, Copy, PartialEq, Eq, Debug)]
+#[derive(Clone, Copy, PartialEq, Eq, Debug, Default)]
 pub struct Q {
     pub c: u16,
     pub i: u16,
@@ -14,25 +14,6 @@ pub struct Q {
 }
 
 impl Q {
-    // The three parts in one word, C highest.
-    pub fn word(self) -> Word
-        ensures { result.bits ≡ joined self }
-    {
-        Word::new((u64::from(self.c) << 32) + (u64::from(self.i) << 16) + u64::from(self.m))
-    }
-
-    // The three parts of a word.
-    pub fn from_word(word: Word) -> Q
-        ensures { result ≡ split word.bits }
-    {
-        let bits = word.bits();
-        Q {
-            c: (bits >> 32) as u16,
-            i: ((bits >> 16) % PART) as u16,
-            m: (bits % PART) as u16,
-        }
-    }
-
     pub fn with_c(self, part: u16) -> Q
         ensures { result ≡ with_c part self }
     {
@@ -92,11 +73,34 @@ impl Q {
     }
 }
 
+// The three parts in one word, C highest.
+impl From<Q> for Word {
+    ghost from_gives = { λ q word. word.bits ≡ joined q };
+
+    fn from(q: Q) -> Word {
+        Word::new((u64::from(q.c) << 32) + (u64::from(q.i) << 16) + u64::from(q.m))
+    }
+}
+
+// The three parts of a word.
+impl From<Word> for Q {
+    ghost from_gives = { λ word q. q ≡ split word.bits };
+
+    fn from(word: Word) -> Q {
+        let bits = word.bits();
+        Q {
+            c: (bits >> 32) as u16,
+            i: ((bits >> 16) % PART) as u16,
+            m: (bits % PART) as u16,
+        }
+    }
+}
+
 // A part on the nest: signed.
 pub fn part_word(part: u16) -> Word
     ensures { result.bits ≡ part_word part }
 {
-    Word::from_i16(part.cast_signed())
+    Word::from(part.cast_signed())
 }
 
 // A link on the nest: unsigned.

@@ -3,22 +3,14 @@ ghost use Rattle.std.specs.Prelude.{◌≡◌};
 ghost use Rattle.word.specs.Symbols.{symbols_of, packed};
 
 use crate::word::Word;
+use std::array;
 
 // A word parted into its symbols.
 pub fn split(word: Word) -> [u8; 8]
     ensures { result ≡ symbols_of word.bits }
 {
     let bits = word.bits();
-    [
-        ((bits >> 42) % 64) as u8,
-        ((bits >> 36) % 64) as u8,
-        ((bits >> 30) % 64) as u8,
-        ((bits >> 24) % 64) as u8,
-        ((bits >> 18) % 64) as u8,
-        ((bits >> 12) % 64) as u8,
-        ((bits >> 6) % 64) as u8,
-        (bits % 64) as u8,
-    ]
+    array::from_fn(|i| ((bits >> (42 - 6 * i)) % 64) as u8)
 }
 
 // Eight symbols packed into a word, each taken modulo 64.

@@ -57,11 +57,22 @@ impl Word {
             overflow: value < -TOP || value >= TOP,
         }
     }
+}
 
-    // A number of 16 bits with its sign, as SET pushes it.
-    pub fn from_i16(value: i16) -> Word
-        ensures { result.bits ≡ wrap 48 value }
-    {
+// Zero.
+impl Default for Word {
+    ghost is_default = { λ word. word.bits ≡ 0 };
+
+    fn default() -> Word {
+        Word { bits: 0 }
+    }
+}
+
+// A number of 16 bits with its sign, as SET pushes it.
+impl From<i16> for Word {
+    ghost from_gives = { λ value word. word.bits ≡ wrap 48 value };
+
+    fn from(value: i16) -> Word {
         Word::checked(i64::from(value)).word
     }
 }

@@ -1,10 +1,10 @@
 -- What the order list says of a range of command bytes: a comparison that antt computes over the range, taken at each of its bytes.
-use Rattle.std.proofs.Common.{◌≡◌, ℕ, ◌+◌, ◌-◌, ◌^◌, ◌<◌, ◌≤◌, Bool, true, false, not, ◌&&◌, leb, ◌⊎◌, map, get_or, ℤ, Some, None, Ok, Err, Option, sym, ap, ◌∙◌, ⊎_elim, arith, to_z, of_z}
+use Rattle.std.proofs.Common.{◌≡◌, ℕ, ◌+◌, ◌-◌, ◌^◌, ◌<◌, ◌≤◌, Bool, true, false, not, cond, ◌&&◌, ◌||◌, leb, map, get_or, ℤ, Some, None, Ok, Err, Option, refl, sym, ap, ◌∙◌, arith, to_z, of_z}
 use mir.Syntax.{Width}
 use mir.Val.{bits}
 use Rattle.std.proofs.lemmas.List.FromFn.{get_or-map-range_with_len}
 use Rattle.std.proofs.lemmas.Int.{of_z-to_z}
-use Rattle.std.proofs.lemmas.Bool.{cond-true, cond-false, not-true, not_from_false, false≢true, le-leb, lt-leb, and_from, and_left, and_right}
+use Rattle.std.proofs.lemmas.Bool.{cond-true, cond-false, not-true, false≢true}
 use Rattle.std.specs.List.{range_with_len}
 use Rattle.order.specs.declared.code.Order.{Order}
 use Rattle.order.specs.declared.code.Undecoded.TheVariants.{UnknownCommand, Operand}
@@ -30,33 +30,38 @@ says_operand : (m : Option Form) (x y z : ℕ) → refuses m x y ≡ true → sa
 says_operand (Some f) x y z h = cond-false (fit f x y) (Ok (made f x y z)) (Err Operand) (not-true (fit f x y) h)
 says_operand None x y z h = absurd (false≢true h)
 
+-- a byte from a to b
+abbrev within : ℕ → ℕ → ℕ → Bool
+within a b c = leb a c && leb c b
+
+-- the commands of the list, those whose operand x is q, and those whose operands x and y are k and q
+abbrev pub listed : ℕ → Bool
+listed c =
+    within 0x01 0x16 c || within 0x20 0x35 c || within 0x38 0x3d c || within 0x40 0x43 c || within 0x50 0x60 c || within 0x68 0x69 c
+    || within 0x70 0x73 c || within 0x78 0x7d c || within 0x80 0x86 c
+
+abbrev pub takes_q : ℕ → Bool
+takes_q c = within 0x20 0x35 c || within 0x38 0x3d c || within 0x68 0x69 c || within 0x70 0x73 c
+
+abbrev pub takes_k_and_q : ℕ → Bool
+takes_k_and_q c = within 0x78 0x7d c || within 0x80 0x86 c
+
+-- an operand past its limit
+abbrev pub over : ℕ → ℕ → ℕ → Bool
+over c x y = cond (takes_q c) (not (leb x 15)) (cond (takes_k_and_q c) (not (leb x 15 && leb y 15)) false)
+
 module _ (c x y z : ℕ) where
   -- a command of this form, with operands that fit, says the order that the form makes
   pub decoded : {o : Order} (f : Form) → form_of c ≡ Some f → fit f x y ≡ true → o ≡ made f x y z → Ok o ≡ order_of c x y z
   unfolding order_of
   decoded f e h m = ap Ok m ∙ sym (ap (λ k. said k x y z) e ∙ cond-true (fit f x y) (Ok (made f x y z)) (Err Operand) h)
 
-  -- no order stands in the range of n bytes from a on
-  pub unknown : (a n : ℕ) → map form_of (range_with_len a n) ≡ map (λ _. None) (range_with_len a n) → a ≤ c → c < a + n → Err UnknownCommand ≡ order_of c x y z
+  pub refused : over c x y ≡ true → c < 256 → Err Operand ≡ order_of c x y z
   unfolding order_of
-  unknown a n e p q = sym (ap (λ m. said m x y z) (same_at form_of (λ _. None) a n c e p q))
+  refused h p = sym (says_operand (form_of c) x y z (same_at (λ c. refuses (form_of c) x y) (λ c. over c x y) 0 256 c refl (omega arith) p ∙ h))
 
-  -- each order of the range refuses its operands where the test b says so
-  pub refused : (a n : ℕ) (b : Bool) → map (λ c. refuses (form_of c) x y) (range_with_len a n) ≡ map (λ _. b) (range_with_len a n) → b ≡ true → a ≤ c → c < a + n → Err Operand ≡ order_of c x y z
+  pub unknown : listed c ≡ false → c < 256 → Err UnknownCommand ≡ order_of c x y z
   unfolding order_of
-  refused a n b e h p q = sym (says_operand (form_of c) x y z (same_at (λ c. refuses (form_of c) x y) (λ _. b) a n c e p q ∙ h))
-
-  -- with q = x, or with k = x and q = y
-  pub q_decoded : {o : Order} (f : Form) → form_of c ≡ Some f → fit f x y ≡ leb x 15 → x ≤ 15 → o ≡ made f x y z → Ok o ≡ order_of c x y z
-  q_decoded f e h p = decoded f e (h ∙ le-leb x 15 p)
-
-  pub kq_decoded : {o : Order} (f : Form) → form_of c ≡ Some f → fit f x y ≡ (leb x 15 && leb y 15) → x ≤ 15 → y ≤ 15 → o ≡ made f x y z → Ok o ≡ order_of c x y z
-  kq_decoded f e h p q = decoded f e (h ∙ and_from (leb x 15) (leb y 15) (le-leb x 15 p) (le-leb y 15 q))
-
-  pub q_refused : (a n : ℕ) → map (λ c. refuses (form_of c) x y) (range_with_len a n) ≡ map (λ _. not (leb x 15)) (range_with_len a n) → 15 < x → a ≤ c → c < a + n → Err Operand ≡ order_of c x y z
-  q_refused a n e h = refused a n (not (leb x 15)) e (not_from_false (leb x 15) (lt-leb x 15 h))
-
-  pub kq_refused : (a n : ℕ) → map (λ c. refuses (form_of c) x y) (range_with_len a n) ≡ map (λ _. not (leb x 15 && leb y 15)) (range_with_len a n) → (15 < x) ⊎ (15 < y) → a ≤ c → c < a + n → Err Operand ≡ order_of c x y z
-  kq_refused a n e h =
-      refused a n (not (leb x 15 && leb y 15)) e (not_from_false (leb x 15 && leb y 15)
-      (⊎_elim (λ p. and_left (leb x 15) (leb y 15) (lt-leb x 15 p)) (λ p. and_right (leb x 15) (leb y 15) (lt-leb y 15 p)) h))
+  unknown h p =
+      sym (ap (λ m. said m x y z) (ap (λ b. cond b None (form_of c)) (sym h)
+      ∙ same_at (λ c. cond (listed c) None (form_of c)) (λ _. None) 0 256 c refl (omega arith) p))

@@ -75,6 +75,10 @@ fit (with_q_a f) x y = nat_le x 15
 fit (with_q_e f) x y = nat_le x 15
 fit (with_k_q f) x y = nat_le x 15 && nat_le y 15
 
+-- a number as that of a Q
+abbrev pub q_number : ℕ → Result ℕ Undecoded
+q_number n = cond (nat_le n 15) (Ok n) (Err Operand)
+
 -- two bytes as one number, the higher byte first
 abbrev pub two : ℕ → ℕ → ℕ
 two high low = high * 256 + low

@@ -1,7 +1,6 @@
 -- The row of the table that the order list asks for at a command byte.
 use Rattle.std.specs.Prelude.{ℕ, ◌+◌, Bool, true, ◌&&◌, List, [], ◌∷◌, length, Some, None, Option, ◌==◌}
 use Rattle.order.specs.declared.table.Row.{Row}
-use Rattle.order.specs.declared.table.entries.Entry.{Entry}
 use Rattle.order.specs.Cells.{Cells, nest, nest_links, cells}
 use Rattle.order.specs.Orders.{Form, form_length, made, form_of}
 
@@ -21,19 +20,17 @@ row_at None = row_with 1 (nest 0 0)
 unfoldable pub row_of : ℕ → Row
 row_of c = row_at (form_of c)
 
--- the same as the table writes it: length; cells of the nest needed and left; links needed and left
-abbrev pub entry_of : ℕ → Entry
-entry_of c = let r = row_of c in (r.length, r.nest_needed, r.nest_left, r.links_needed, r.links_left)
+-- the test that a row is another one
+abbrev pub same : Row → Row → Bool
+same r s =
+    (r.length == s.length && (r.nest_needed == s.nest_needed && r.nest_left == s.nest_left))
+    && (r.links_needed == s.links_needed && r.links_left == s.links_left)
 
--- the test that an entry is another one
-abbrev pub same : Entry → Entry → Bool
-same e f = (e.0 == f.0 && (e.1 == f.1 && e.2 == f.2)) && (e.3 == f.3 && e.4 == f.4)
-
--- the test that entries are those that the order list asks for at n, n + 1, ..
-abbrev pub agree : List Entry → ℕ → Bool
+-- the test that rows are those that the order list asks for at n, n + 1, ..
+abbrev pub agree : List Row → ℕ → Bool
 agree [] n = true
-agree (e ∷ es) n = same e (entry_of n) && agree es (n + 1)
+agree (r ∷ rs) n = same r (row_of n) && agree rs (n + 1)
 
--- the test that a table is that of the order list: 256 entries, one for each command byte
-abbrev pub table_agrees : List Entry → Bool
+-- the test that a table is that of the order list: 256 rows, one for each command byte
+abbrev pub table_agrees : List Row → Bool
 table_agrees table = length table == 256 && agree table 0

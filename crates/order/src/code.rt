@@ -1,7 +1,59 @@
 // The orders, by groups, with their operands, and what a command that is no order answers.
+ghost use Rattle.std.specs.Prelude.{◌≡◌, ◌<◌, ◌≤◌};
+ghost use Rattle.order.specs.Orders.{q_number};
+
+use std::marker::Model;
+
+// The number of a Q, 0 to 15.
+#[derive(Clone, Copy, PartialEq, Eq, Debug)]
+pub struct QNumber {
+    number: u8,
+}
+
+impl Model for QNumber {
+    ghost use Rattle.std.specs.Prelude.{ℕ, ◌≤◌};
+
+    ghost Value = { ℕ };
+
+    ghost view = { λ q. q.number };
+
+    ghost invariant = { λ q. q.number ≤ 15 };
+
+    ghost inverse = { λ n. record { number = n } };
+}
+
+impl QNumber {
+    pub fn get(self) -> u8
+        ensures { (result ≡ self) × (result < 16) }
+    {
+        self.number
+    }
+}
+
+// The number of a Q, from a byte that is known to be one.
+pub(crate) fn q(number: u8) -> QNumber
+    requires { number ≤ 15 }
+    ensures { result ≡ number }
+{
+    QNumber { number }
+}
+
+impl TryFrom<u8> for QNumber {
+    type Error = Undecoded;
+
+    ghost try_from_gives = { λ number result. result ≡ q_number number };
+
+    fn try_from(number: u8) -> Result<QNumber, Undecoded> {
+        if number <= 15 {
+            Ok(q(number))
+        } else {
+            Err(Undecoded::Operand)
+        }
+    }
+}
 
 // Moves of words on the nest.
-#[derive(Clone, Copy)]
+#[derive(Clone, Copy, PartialEq, Eq, Debug)]
 pub enum MoveOrder {
     Zero,
     Dup,
@@ -12,7 +64,7 @@ pub enum MoveOrder {
 }
 
 // N1 replaced by one word.
-#[derive(Clone, Copy)]
+#[derive(Clone, Copy, PartialEq, Eq, Debug)]
 pub enum UnaryOrder {
     Neg,
     Abs,
@@ -21,7 +73,7 @@ pub enum UnaryOrder {
 }
 
 // N2 and N1 replaced by one word. `Either` is OR.
-#[derive(Clone, Copy)]
+#[derive(Clone, Copy, PartialEq, Eq, Debug)]
 pub enum BinaryOrder {
     Add,
     Subtract,
@@ -32,7 +84,7 @@ pub enum BinaryOrder {
 }
 
 // On V, T and the links.
-#[derive(Clone, Copy)]
+#[derive(Clone, Copy, PartialEq, Eq, Debug)]
 pub enum ControlOrder {
     Dummy,
     ClearOverflow,
@@ -42,7 +94,7 @@ pub enum ControlOrder {
 }
 
 // On one Q.
-#[derive(Clone, Copy)]
+#[derive(Clone, Copy, PartialEq, Eq, Debug)]
 pub enum QOrder {
     Advance,
     Retreat,
@@ -65,7 +117,7 @@ pub enum QOrder {
     ResetM,
 }
 
-#[derive(Clone, Copy)]
+#[derive(Clone, Copy, PartialEq, Eq, Debug)]
 pub enum Shift {
     Arithmetic,
     Logical,
@@ -73,7 +125,7 @@ pub enum Shift {
 }
 
 // Between the store and the device of a buffer.
-#[derive(Clone, Copy)]
+#[derive(Clone, Copy, PartialEq, Eq, Debug)]
 pub enum TransferOrder {
     Read,
     ReadToEnd,
@@ -84,7 +136,7 @@ pub enum TransferOrder {
 }
 
 // When a jump goes to its place.
-#[derive(Clone, Copy)]
+#[derive(Clone, Copy, PartialEq, Eq, Debug)]
 pub enum Condition {
     Always,
     ToSubroutine,
@@ -105,14 +157,14 @@ pub enum Condition {
 }
 
 // When a jump on the C part of a Q goes to its place.
-#[derive(Clone, Copy)]
+#[derive(Clone, Copy, PartialEq, Eq, Debug)]
 pub enum CountTest {
     IfZero,
     IfNotZero,
 }
 
 // On the word at e + M of q. `Step` then advances M and counts C down.
-#[derive(Clone, Copy)]
+#[derive(Clone, Copy, PartialEq, Eq, Debug)]
 pub enum StoreOrder {
     Fetch,
     FetchStep,
@@ -121,7 +173,7 @@ pub enum StoreOrder {
 }
 
 // On the word, or the half of a word, at M of k and M of q.
-#[derive(Clone, Copy)]
+#[derive(Clone, Copy, PartialEq, Eq, Debug)]
 pub enum IndexedOrder {
     Fetch,
     Put,
@@ -132,7 +184,7 @@ pub enum IndexedOrder {
 }
 
 // Which parts of one Q are copied to another.
-#[derive(Clone, Copy)]
+#[derive(Clone, Copy, PartialEq, Eq, Debug)]
 pub enum Parts {
     M,
     I,
@@ -144,34 +196,34 @@ pub enum Parts {
 }
 
 // On the registers alone. A comment names the operands that the numbers are.
-#[derive(Clone, Copy)]
+#[derive(Clone, Copy, PartialEq, Eq, Debug)]
 pub enum RegisterOrder {
     Move(MoveOrder),
     Unary(UnaryOrder),
     Binary(BinaryOrder),
     Control(ControlOrder),
-    Q(QOrder, u8), // q
-    ShiftByCount(Shift, u8), // q
+    Q(QOrder, QNumber), // q
+    ShiftByCount(Shift, QNumber), // q
     ShiftBy(Shift, i8), // n
     Exit(u8), // h
     Jump(Condition, u16), // a
     Set(i16), // i
-    JumpCount(CountTest, u8, u16), // q, a
-    Copy(Parts, u8, u8), // k, q
+    JumpCount(CountTest, QNumber, u16), // q, a
+    Copy(Parts, QNumber, QNumber), // k, q
 }
 
 // An order with its operands: q and e of `Store`, k and q of `Indexed`, q of `Transfer`.
-#[derive(Clone, Copy)]
+#[derive(Clone, Copy, PartialEq, Eq, Debug)]
 pub enum Order {
     Register(RegisterOrder),
-    Store(StoreOrder, u8, u16),
-    Indexed(IndexedOrder, u8, u8),
-    Transfer(TransferOrder, u8),
+    Store(StoreOrder, QNumber, u16),
+    Indexed(IndexedOrder, QNumber, QNumber),
+    Transfer(TransferOrder, QNumber),
     Out,
 }
 
 // Why bytes are no order: the command stands in no line of the list, or q or k is over 15.
-#[derive(Clone, Copy, PartialEq, Debug)]
+#[derive(Clone, Copy, PartialEq, Eq, Debug)]
 pub enum Undecoded {
     UnknownCommand,
     Operand,

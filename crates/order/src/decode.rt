@@ -2,10 +2,11 @@
 ghost use Rattle.std.specs.Prelude.{◌≡◌};
 ghost use Rattle.order.specs.Orders.{order_of, two};
 
+use crate::code::Order::{Indexed, Out, Register, Store, Transfer};
 use crate::code::RegisterOrder::{
     Control, Copy, Exit, Jump, JumpCount, Q, Set, ShiftBy, ShiftByCount,
 };
-use crate::code::{Order, Undecoded};
+use crate::code::{Order, Undecoded, q};
 use crate::groups::{
     condition, control_order, count_test, indexed_order, nest_order, parts, q_order, shift_by,
     shift_by_count, store_order, transfer_order,
@@ -15,7 +16,7 @@ use crate::groups::{
 fn pair(high: u8, low: u8) -> u16
     ensures { result ≡ two high low }
 {
-    u16::from(high) * 256 + u16::from(low)
+    u16::from_be_bytes([high, low])
 }
 
 // The order of a command byte and the three bytes after it, of which its own operands count.
@@ -23,24 +24,20 @@ pub fn decode(command: u8, x: u8, y: u8, z: u8) -> Result<Order, Undecoded>
     ensures { result ≡ order_of command x y z }
 {
     match command {
-        0x01..=0x10 => Ok(Order::Register(nest_order(command))),
-        0x11..=0x15 => Ok(Order::Register(Control(control_order(command)))),
-        0x16 => Ok(Order::Out),
-        0x20..=0x32 if x <= 15 => Ok(Order::Register(Q(q_order(command), x))),
-        0x33..=0x35 if x <= 15 => Ok(Order::Register(ShiftByCount(shift_by_count(command), x))),
-        0x38..=0x3d if x <= 15 => Ok(Order::Transfer(transfer_order(command), x)),
-        0x40..=0x42 => Ok(Order::Register(ShiftBy(shift_by(command), x.cast_signed()))),
-        0x43 => Ok(Order::Register(Exit(x))),
-        0x50..=0x5f => Ok(Order::Register(Jump(condition(command), pair(x, y)))),
-        0x60 => Ok(Order::Register(Set(pair(x, y).cast_signed()))),
-        0x68..=0x69 if x <= 15 => Ok(Order::Register(JumpCount(
-            count_test(command),
-            x,
-            pair(y, z),
-        ))),
-        0x70..=0x73 if x <= 15 => Ok(Order::Store(store_order(command), x, pair(y, z))),
-        0x78..=0x7d if x <= 15 && y <= 15 => Ok(Order::Indexed(indexed_order(command), x, y)),
-        0x80..=0x86 if x <= 15 && y <= 15 => Ok(Order::Register(Copy(parts(command), x, y))),
+        0x01..=0x10 => Ok(Register(nest_order(command))),
+        0x11..=0x15 => Ok(Register(Control(control_order(command)))),
+        0x16 => Ok(Out),
+        0x20..=0x32 if x <= 15 => Ok(Register(Q(q_order(command), q(x)))),
+        0x33..=0x35 if x <= 15 => Ok(Register(ShiftByCount(shift_by_count(command), q(x)))),
+        0x38..=0x3d if x <= 15 => Ok(Transfer(transfer_order(command), q(x))),
+        0x40..=0x42 => Ok(Register(ShiftBy(shift_by(command), x.cast_signed()))),
+        0x43 => Ok(Register(Exit(x))),
+        0x50..=0x5f => Ok(Register(Jump(condition(command), pair(x, y)))),
+        0x60 => Ok(Register(Set(pair(x, y).cast_signed()))),
+        0x68..=0x69 if x <= 15 => Ok(Register(JumpCount(count_test(command), q(x), pair(y, z)))),
+        0x70..=0x73 if x <= 15 => Ok(Store(store_order(command), q(x), pair(y, z))),
+        0x78..=0x7d if x <= 15 && y <= 15 => Ok(Indexed(indexed_order(command), q(x), q(y))),
+        0x80..=0x86 if x <= 15 && y <= 15 => Ok(Register(Copy(parts(command), q(x), q(y)))),
         0x20..=0x35 | 0x38..=0x3d | 0x68..=0x69 => Err(Undecoded::Operand),
         0x70..=0x73 | 0x78..=0x7d | 0x80..=0x86 => Err(Undecoded::Operand),
         _ => Err(Undecoded::UnknownCommand),

@@ -1,13 +1,13 @@
 // The row of each command byte: the length of its order, and the cells of nest and links that it needs and leaves.
 ghost use Rattle.std.specs.Prelude.{◌≡◌, true};
-ghost use Rattle.order.specs.Table.{row_of, entry_of, table_agrees};
+ghost use Rattle.order.specs.Table.{row_of, table_agrees};
 
-use self::entries::{Entry, TABLE};
+use self::entries::TABLE;
 
 mod entries;
 
 // The cells that a command needs, and those that it leaves in their place.
-#[derive(Clone, Copy)]
+#[derive(Clone, Copy, PartialEq, Eq, Debug)]
 pub struct Row {
     pub length: u8,
     pub nest_needed: u8,
@@ -21,21 +21,14 @@ impl Row {
     pub fn of(command: u8) -> Row
         ensures { result ≡ row_of command }
     {
-        let found = entry(&TABLE, command);
-        Row {
-            length: found.0,
-            nest_needed: found.1,
-            nest_left: found.2,
-            links_needed: found.3,
-            links_left: found.4,
-        }
+        row_in(&TABLE, command)
     }
 }
 
-// The entry of a command byte in a table that agrees with the order list.
-fn entry(table: &[Entry; 256], command: u8) -> Entry
+// The row of a command byte in a table that agrees with the order list.
+fn row_in(table: &[Row; 256], command: u8) -> Row
     requires { table_agrees table.now ≡ true }
-    ensures { result ≡ entry_of command }
+    ensures { result ≡ row_of command }
 {
     table[command as usize]
 }

@@ -1,36 +1,47 @@
-// The table of 256 entries, one for each command byte.
+// The table of 256 rows, one for each command byte.
 
-// Length; cells of the nest needed and left; links needed and left.
-#[derive(Clone, Copy)]
-pub(super) struct Entry(pub u8, pub u8, pub u8, pub u8, pub u8);
+use super::Row;
+
+// A row: length; cells of the nest needed and left; links needed and left.
+macro_rules! row {
+    ($length:literal, $nest_needed:literal, $nest_left:literal, $links_needed:literal, $links_left:literal) => {
+        Row {
+            length: $length,
+            nest_needed: $nest_needed,
+            nest_left: $nest_left,
+            links_needed: $links_needed,
+            links_left: $links_left,
+        }
+    };
+}
 
 // A byte that stands in no line of the order list.
-const UNKNOWN: Entry = Entry(1, 0, 0, 0, 0);
+const UNKNOWN: Row = row!(1, 0, 0, 0, 0);
 
-pub(super) static TABLE: [Entry; 256] = [
+pub(super) static TABLE: [Row; 256] = [
     UNKNOWN, // 00
-    Entry(1, 0, 1, 0, 0), // 01 ZERO
-    Entry(1, 1, 2, 0, 0), // 02 DUP
-    Entry(1, 1, 0, 0, 0), // 03 ERASE
-    Entry(1, 2, 2, 0, 0), // 04 REV
-    Entry(1, 3, 3, 0, 0), // 05 PERM
-    Entry(1, 3, 3, 0, 0), // 06 CAB
-    Entry(1, 2, 1, 0, 0), // 07 +
-    Entry(1, 2, 1, 0, 0), // 08 -
-    Entry(1, 1, 1, 0, 0), // 09 NEG
-    Entry(1, 1, 1, 0, 0), // 0a ABS
-    Entry(1, 2, 1, 0, 0), // 0b SIGN
-    Entry(1, 1, 1, 0, 0), // 0c NOT
-    Entry(1, 2, 1, 0, 0), // 0d AND
-    Entry(1, 2, 1, 0, 0), // 0e OR
-    Entry(1, 2, 1, 0, 0), // 0f NEV
-    Entry(1, 1, 1, 0, 0), // 10 BITS
-    Entry(1, 0, 0, 0, 0), // 11 DUMMY
-    Entry(1, 0, 0, 0, 0), // 12 VR
-    Entry(1, 1, 0, 0, 0), // 13 =TR
-    Entry(1, 0, 1, 1, 0), // 14 LINK
-    Entry(1, 1, 0, 0, 1), // 15 =LINK
-    Entry(1, 1, 0, 0, 0), // 16 OUT
+    row!(1, 0, 1, 0, 0), // 01 ZERO
+    row!(1, 1, 2, 0, 0), // 02 DUP
+    row!(1, 1, 0, 0, 0), // 03 ERASE
+    row!(1, 2, 2, 0, 0), // 04 REV
+    row!(1, 3, 3, 0, 0), // 05 PERM
+    row!(1, 3, 3, 0, 0), // 06 CAB
+    row!(1, 2, 1, 0, 0), // 07 +
+    row!(1, 2, 1, 0, 0), // 08 -
+    row!(1, 1, 1, 0, 0), // 09 NEG
+    row!(1, 1, 1, 0, 0), // 0a ABS
+    row!(1, 2, 1, 0, 0), // 0b SIGN
+    row!(1, 1, 1, 0, 0), // 0c NOT
+    row!(1, 2, 1, 0, 0), // 0d AND
+    row!(1, 2, 1, 0, 0), // 0e OR
+    row!(1, 2, 1, 0, 0), // 0f NEV
+    row!(1, 1, 1, 0, 0), // 10 BITS
+    row!(1, 0, 0, 0, 0), // 11 DUMMY
+    row!(1, 0, 0, 0, 0), // 12 VR
+    row!(1, 1, 0, 0, 0), // 13 =TR
+    row!(1, 0, 1, 1, 0), // 14 LINK
+    row!(1, 1, 0, 0, 1), // 15 =LINK
+    row!(1, 1, 0, 0, 0), // 16 OUT
     UNKNOWN, // 17
     UNKNOWN, // 18
     UNKNOWN, // 19
@@ -40,42 +51,42 @@ pub(super) static TABLE: [Entry; 256] = [
     UNKNOWN, // 1d
     UNKNOWN, // 1e
     UNKNOWN, // 1f
-    Entry(2, 0, 0, 0, 0), // 20 M+I
-    Entry(2, 0, 0, 0, 0), // 21 M-I
-    Entry(2, 0, 0, 0, 0), // 22 NC
-    Entry(2, 0, 0, 0, 0), // 23 DC
-    Entry(2, 0, 0, 0, 0), // 24 I=1
-    Entry(2, 0, 0, 0, 0), // 25 I=-1
-    Entry(2, 0, 0, 0, 0), // 26 I=2
-    Entry(2, 0, 0, 0, 0), // 27 I=-2
-    Entry(2, 0, 1, 0, 0), // 28 Q
-    Entry(2, 0, 1, 0, 0), // 29 C
-    Entry(2, 0, 1, 0, 0), // 2a I
-    Entry(2, 0, 1, 0, 0), // 2b M
-    Entry(2, 1, 0, 0, 0), // 2c =Q
-    Entry(2, 1, 0, 0, 0), // 2d =C
-    Entry(2, 1, 0, 0, 0), // 2e =I
-    Entry(2, 1, 0, 0, 0), // 2f =M
-    Entry(2, 1, 0, 0, 0), // 30 =RC
-    Entry(2, 1, 0, 0, 0), // 31 =RI
-    Entry(2, 1, 0, 0, 0), // 32 =RM
-    Entry(2, 1, 1, 0, 0), // 33 SHAC
-    Entry(2, 1, 1, 0, 0), // 34 SHLC
-    Entry(2, 1, 1, 0, 0), // 35 SHCC
+    row!(2, 0, 0, 0, 0), // 20 M+I
+    row!(2, 0, 0, 0, 0), // 21 M-I
+    row!(2, 0, 0, 0, 0), // 22 NC
+    row!(2, 0, 0, 0, 0), // 23 DC
+    row!(2, 0, 0, 0, 0), // 24 I=1
+    row!(2, 0, 0, 0, 0), // 25 I=-1
+    row!(2, 0, 0, 0, 0), // 26 I=2
+    row!(2, 0, 0, 0, 0), // 27 I=-2
+    row!(2, 0, 1, 0, 0), // 28 Q
+    row!(2, 0, 1, 0, 0), // 29 C
+    row!(2, 0, 1, 0, 0), // 2a I
+    row!(2, 0, 1, 0, 0), // 2b M
+    row!(2, 1, 0, 0, 0), // 2c =Q
+    row!(2, 1, 0, 0, 0), // 2d =C
+    row!(2, 1, 0, 0, 0), // 2e =I
+    row!(2, 1, 0, 0, 0), // 2f =M
+    row!(2, 1, 0, 0, 0), // 30 =RC
+    row!(2, 1, 0, 0, 0), // 31 =RI
+    row!(2, 1, 0, 0, 0), // 32 =RM
+    row!(2, 1, 1, 0, 0), // 33 SHAC
+    row!(2, 1, 1, 0, 0), // 34 SHLC
+    row!(2, 1, 1, 0, 0), // 35 SHCC
     UNKNOWN, // 36
     UNKNOWN, // 37
-    Entry(2, 0, 0, 0, 0), // 38 RD
-    Entry(2, 0, 0, 0, 0), // 39 RDE
-    Entry(2, 0, 0, 0, 0), // 3a WR
-    Entry(2, 0, 0, 0, 0), // 3b WRE
-    Entry(2, 0, 0, 0, 0), // 3c SEEK
-    Entry(2, 0, 0, 0, 0), // 3d BUSY
+    row!(2, 0, 0, 0, 0), // 38 RD
+    row!(2, 0, 0, 0, 0), // 39 RDE
+    row!(2, 0, 0, 0, 0), // 3a WR
+    row!(2, 0, 0, 0, 0), // 3b WRE
+    row!(2, 0, 0, 0, 0), // 3c SEEK
+    row!(2, 0, 0, 0, 0), // 3d BUSY
     UNKNOWN, // 3e
     UNKNOWN, // 3f
-    Entry(2, 1, 1, 0, 0), // 40 SHA
-    Entry(2, 1, 1, 0, 0), // 41 SHL
-    Entry(2, 1, 1, 0, 0), // 42 SHC
-    Entry(2, 0, 0, 1, 0), // 43 EXIT
+    row!(2, 1, 1, 0, 0), // 40 SHA
+    row!(2, 1, 1, 0, 0), // 41 SHL
+    row!(2, 1, 1, 0, 0), // 42 SHC
+    row!(2, 0, 0, 1, 0), // 43 EXIT
     UNKNOWN, // 44
     UNKNOWN, // 45
     UNKNOWN, // 46
@@ -88,23 +99,23 @@ pub(super) static TABLE: [Entry; 256] = [
     UNKNOWN, // 4d
     UNKNOWN, // 4e
     UNKNOWN, // 4f
-    Entry(3, 0, 0, 0, 0), // 50 J
-    Entry(3, 0, 0, 0, 1), // 51 JS
-    Entry(3, 1, 0, 0, 0), // 52 J=Z
-    Entry(3, 1, 0, 0, 0), // 53 J#Z
-    Entry(3, 1, 0, 0, 0), // 54 J<Z
-    Entry(3, 1, 0, 0, 0), // 55 J>=Z
-    Entry(3, 1, 0, 0, 0), // 56 J>Z
-    Entry(3, 1, 0, 0, 0), // 57 J<=Z
-    Entry(3, 0, 0, 0, 0), // 58 JEN
-    Entry(3, 0, 0, 0, 0), // 59 JNEN
-    Entry(3, 0, 0, 0, 0), // 5a JEJ
-    Entry(3, 0, 0, 0, 0), // 5b JNEJ
-    Entry(3, 0, 0, 0, 0), // 5c JTR
-    Entry(3, 0, 0, 0, 0), // 5d JNTR
-    Entry(3, 0, 0, 0, 0), // 5e JV
-    Entry(3, 0, 0, 0, 0), // 5f JNV
-    Entry(3, 0, 1, 0, 0), // 60 SET
+    row!(3, 0, 0, 0, 0), // 50 J
+    row!(3, 0, 0, 0, 1), // 51 JS
+    row!(3, 1, 0, 0, 0), // 52 J=Z
+    row!(3, 1, 0, 0, 0), // 53 J#Z
+    row!(3, 1, 0, 0, 0), // 54 J<Z
+    row!(3, 1, 0, 0, 0), // 55 J>=Z
+    row!(3, 1, 0, 0, 0), // 56 J>Z
+    row!(3, 1, 0, 0, 0), // 57 J<=Z
+    row!(3, 0, 0, 0, 0), // 58 JEN
+    row!(3, 0, 0, 0, 0), // 59 JNEN
+    row!(3, 0, 0, 0, 0), // 5a JEJ
+    row!(3, 0, 0, 0, 0), // 5b JNEJ
+    row!(3, 0, 0, 0, 0), // 5c JTR
+    row!(3, 0, 0, 0, 0), // 5d JNTR
+    row!(3, 0, 0, 0, 0), // 5e JV
+    row!(3, 0, 0, 0, 0), // 5f JNV
+    row!(3, 0, 1, 0, 0), // 60 SET
     UNKNOWN, // 61
     UNKNOWN, // 62
     UNKNOWN, // 63
@@ -112,37 +123,37 @@ pub(super) static TABLE: [Entry; 256] = [
     UNKNOWN, // 65
     UNKNOWN, // 66
     UNKNOWN, // 67
-    Entry(4, 0, 0, 0, 0), // 68 JCZ
-    Entry(4, 0, 0, 0, 0), // 69 JCNZ
+    row!(4, 0, 0, 0, 0), // 68 JCZ
+    row!(4, 0, 0, 0, 0), // 69 JCNZ
     UNKNOWN, // 6a
     UNKNOWN, // 6b
     UNKNOWN, // 6c
     UNKNOWN, // 6d
     UNKNOWN, // 6e
     UNKNOWN, // 6f
-    Entry(4, 0, 1, 0, 0), // 70 E
-    Entry(4, 0, 1, 0, 0), // 71 EQ
-    Entry(4, 1, 0, 0, 0), // 72 =E
-    Entry(4, 1, 0, 0, 0), // 73 =EQ
+    row!(4, 0, 1, 0, 0), // 70 E
+    row!(4, 0, 1, 0, 0), // 71 EQ
+    row!(4, 1, 0, 0, 0), // 72 =E
+    row!(4, 1, 0, 0, 0), // 73 =EQ
     UNKNOWN, // 74
     UNKNOWN, // 75
     UNKNOWN, // 76
     UNKNOWN, // 77
-    Entry(3, 0, 1, 0, 0), // 78 MM
-    Entry(3, 1, 0, 0, 0), // 79 =MM
-    Entry(3, 0, 1, 0, 0), // 7a MMQ
-    Entry(3, 1, 0, 0, 0), // 7b =MMQ
-    Entry(3, 0, 1, 0, 0), // 7c MMH
-    Entry(3, 1, 0, 0, 0), // 7d =MMH
+    row!(3, 0, 1, 0, 0), // 78 MM
+    row!(3, 1, 0, 0, 0), // 79 =MM
+    row!(3, 0, 1, 0, 0), // 7a MMQ
+    row!(3, 1, 0, 0, 0), // 7b =MMQ
+    row!(3, 0, 1, 0, 0), // 7c MMH
+    row!(3, 1, 0, 0, 0), // 7d =MMH
     UNKNOWN, // 7e
     UNKNOWN, // 7f
-    Entry(3, 0, 0, 0, 0), // 80 MTO
-    Entry(3, 0, 0, 0, 0), // 81 ITO
-    Entry(3, 0, 0, 0, 0), // 82 IMTO
-    Entry(3, 0, 0, 0, 0), // 83 CTO
-    Entry(3, 0, 0, 0, 0), // 84 CMTO
-    Entry(3, 0, 0, 0, 0), // 85 CITO
-    Entry(3, 0, 0, 0, 0), // 86 QTO
+    row!(3, 0, 0, 0, 0), // 80 MTO
+    row!(3, 0, 0, 0, 0), // 81 ITO
+    row!(3, 0, 0, 0, 0), // 82 IMTO
+    row!(3, 0, 0, 0, 0), // 83 CTO
+    row!(3, 0, 0, 0, 0), // 84 CMTO
+    row!(3, 0, 0, 0, 0), // 85 CITO
+    row!(3, 0, 0, 0, 0), // 86 QTO
     UNKNOWN, // 87
     UNKNOWN, // 88
     UNKNOWN, // 89

@@ -1,9 +1,10 @@
 -- Each way out of the match: an order of a group, an operand past its limit, or a gap between the orders.
-use Rattle.std.proofs.Common.{refl, ap, ◌∙◌, inl, inr, arith, w8, w16, to_z}
-use Rattle.order.specs.declared.code.Order.TheVariants.{Register, Store, Out}
-use Rattle.order.specs.declared.code.RegisterOrder.TheVariants.{ShiftBy, Jump, Set, JumpCount}
+use Rattle.std.proofs.lemmas.Bool.Decides.{nat_tests}
+use Rattle.std.proofs.Common.{refl, ap, ◌∙◌, arith, w8, w16, to_z}
+use Rattle.order.specs.declared.code.Order.TheVariants.{Register, Out}
+use Rattle.order.specs.declared.code.RegisterOrder.TheVariants.{ShiftBy, Set}
 use Rattle.order.specs.Orders.{form_of, alone, control, on_q, shift_by_c, transfer, shift, exit, jump, set_number, jump_count, store, indexed, copy}
-use Rattle.order.proofs.Codes.{signed_back, decoded, q_decoded, kq_decoded, q_refused, kq_refused, unknown}
+use Rattle.order.proofs.Codes.{signed_back, decoded, refused, unknown}
 use Rattle.order.proofs.decode.decode.Goals as goal
 
 -- the orders without a Q
@@ -23,88 +24,40 @@ pub returns-in-67 : goal.returns-in-67
 returns-in-67 c = decoded _ _ _ _ exit (ap form_of c.in-67.is) refl refl
 
 pub returns-in-80-to-95 : goal.returns-in-80-to-95
-returns-in-80-to-95 c = decoded _ _ _ _ (jump c.condition.result) c.condition.ensures refl (ap (λ a. Register (Jump c.condition.result a)) c.pair-in-80-to-95.ensures)
+returns-in-80-to-95 c = decoded _ _ _ _ (jump c.condition.result) c.condition.ensures refl (cc)
 
 pub returns-in-96 : goal.returns-in-96
 returns-in-96 c = decoded _ _ _ _ set_number (ap form_of c.in-96.is) refl (ap (λ i. Register (Set i)) (signed_back w16 c.pair.result c.cast_signed.result c.cast_signed.ensures c.pair.type_inv ∙ ap (to_z w16) c.pair.ensures))
 
 -- the orders with q, and with k and q
 pub returns-in-32-to-50 : goal.returns-in-32-to-50
-returns-in-32-to-50 c = q_decoded _ _ _ _ (on_q c.q_order.result) c.q_order.ensures refl (omega arith) refl
+returns-in-32-to-50 c = decoded _ _ _ _ (on_q c.q_order.result) c.q_order.ensures (grind (arith, nat_tests)) (cc)
 
 pub returns-in-51-to-53 : goal.returns-in-51-to-53
-returns-in-51-to-53 c = q_decoded _ _ _ _ (shift_by_c c.shift_by_count.result) c.shift_by_count.ensures refl (omega arith) refl
+returns-in-51-to-53 c = decoded _ _ _ _ (shift_by_c c.shift_by_count.result) c.shift_by_count.ensures (grind (arith, nat_tests)) (cc)
 
 pub returns-in-56-to-61 : goal.returns-in-56-to-61
-returns-in-56-to-61 c = q_decoded _ _ _ _ (transfer c.transfer_order.result) c.transfer_order.ensures refl (omega arith) refl
+returns-in-56-to-61 c = decoded _ _ _ _ (transfer c.transfer_order.result) c.transfer_order.ensures (grind (arith, nat_tests)) (cc)
 
 pub returns-in-104-to-105 : goal.returns-in-104-to-105
-returns-in-104-to-105 c = q_decoded _ _ _ _ (jump_count c.count_test.result) c.count_test.ensures refl (omega arith) (ap (λ a. Register (JumpCount c.count_test.result c.args.x a)) c.pair-in-104-to-105.ensures)
+returns-in-104-to-105 c = decoded _ _ _ _ (jump_count c.count_test.result) c.count_test.ensures (grind (arith, nat_tests)) (cc)
 
 pub returns-in-112-to-115 : goal.returns-in-112-to-115
-returns-in-112-to-115 c = q_decoded _ _ _ _ (store c.store_order.result) c.store_order.ensures refl (omega arith) (ap (λ a. Store c.store_order.result c.args.x a) c.pair-in-112-to-115.ensures)
+returns-in-112-to-115 c = decoded _ _ _ _ (store c.store_order.result) c.store_order.ensures (grind (arith, nat_tests)) (cc)
 
 pub returns-in-120-to-125 : goal.returns-in-120-to-125
-returns-in-120-to-125 c = kq_decoded _ _ _ _ (indexed c.indexed_order.result) c.indexed_order.ensures refl (omega arith) (omega arith) refl
+returns-in-120-to-125 c = decoded _ _ _ _ (indexed c.indexed_order.result) c.indexed_order.ensures (grind (arith, nat_tests)) (cc)
 
 pub returns-in-128-to-134 : goal.returns-in-128-to-134
-returns-in-128-to-134 c = kq_decoded _ _ _ _ (copy c.parts.result) c.parts.ensures refl (omega arith) (omega arith) refl
+returns-in-128-to-134 c = decoded _ _ _ _ (copy c.parts.result) c.parts.ensures (grind (arith, nat_tests)) (cc)
 
--- q or k over 15: from which byte on, and how many
+-- q or k over 15
 pub returns-in-32-to-53 : goal.returns-in-32-to-53
-returns-in-32-to-53 c = q_refused _ _ _ _ 0x20 19 refl (omega arith) (omega arith) (omega arith)
-
-pub returns-in-32-to-53-2 : goal.returns-in-32-to-53-2
-returns-in-32-to-53-2 c = q_refused _ _ _ _ 0x33 3 refl (omega arith) (omega arith) (omega arith)
-
-pub returns-in-32-to-53-3 : goal.returns-in-32-to-53-3
-returns-in-32-to-53-3 c = q_refused _ _ _ _ 0x38 6 refl (omega arith) (omega arith) (omega arith)
-
-pub returns-in-32-to-53-4 : goal.returns-in-32-to-53-4
-returns-in-32-to-53-4 c = q_refused _ _ _ _ 0x68 2 refl (omega arith) (omega arith) (omega arith)
+returns-in-32-to-53 c = refused _ _ _ _ (grind (arith, nat_tests)) c.ranges.command.fits
 
 pub returns-in-112-to-115-2 : goal.returns-in-112-to-115-2
-returns-in-112-to-115-2 c = q_refused _ _ _ _ 0x70 4 refl (omega arith) (omega arith) (omega arith)
+returns-in-112-to-115-2 c = refused _ _ _ _ (grind (arith, nat_tests)) c.ranges.command.fits
 
-pub returns-in-112-to-115-2-2 : goal.returns-in-112-to-115-2-2
-returns-in-112-to-115-2-2 c = kq_refused _ _ _ _ 0x78 6 refl (inr (omega arith)) (omega arith) (omega arith)
-
-pub returns-in-112-to-115-2-3 : goal.returns-in-112-to-115-2-3
-returns-in-112-to-115-2-3 c = kq_refused _ _ _ _ 0x78 6 refl (inl (omega arith)) (omega arith) (omega arith)
-
-pub returns-in-112-to-115-2-4 : goal.returns-in-112-to-115-2-4
-returns-in-112-to-115-2-4 c = kq_refused _ _ _ _ 0x80 7 refl (inr (omega arith)) (omega arith) (omega arith)
-
-pub returns-in-112-to-115-2-5 : goal.returns-in-112-to-115-2-5
-returns-in-112-to-115-2-5 c = kq_refused _ _ _ _ 0x80 7 refl (inl (omega arith)) (omega arith) (omega arith)
-
--- the gaps between the orders: from which byte on, and how many
+-- the gaps between the orders
 pub returns-in_default : goal.returns-in_default
-returns-in_default c = unknown _ _ _ _ 0x00 1 refl (omega arith) (omega arith)
-
-pub returns-in_default-2 : goal.returns-in_default-2
-returns-in_default-2 c = unknown _ _ _ _ 0x17 9 refl (omega arith) (omega arith)
-
-pub returns-in_default-3 : goal.returns-in_default-3
-returns-in_default-3 c = unknown _ _ _ _ 0x36 2 refl (omega arith) (omega arith)
-
-pub returns-in_default-4 : goal.returns-in_default-4
-returns-in_default-4 c = unknown _ _ _ _ 0x3e 2 refl (omega arith) (omega arith)
-
-pub returns-in_default-5 : goal.returns-in_default-5
-returns-in_default-5 c = unknown _ _ _ _ 0x44 12 refl (omega arith) (omega arith)
-
-pub returns-in_default-6 : goal.returns-in_default-6
-returns-in_default-6 c = unknown _ _ _ _ 0x61 7 refl (omega arith) (omega arith)
-
-pub returns-in_default-7 : goal.returns-in_default-7
-returns-in_default-7 c = unknown _ _ _ _ 0x6a 6 refl (omega arith) (omega arith)
-
-pub returns-in_default-8 : goal.returns-in_default-8
-returns-in_default-8 c = unknown _ _ _ _ 0x74 4 refl (omega arith) (omega arith)
-
-pub returns-in_default-9 : goal.returns-in_default-9
-returns-in_default-9 c = unknown _ _ _ _ 0x7e 2 refl (omega arith) (omega arith)
-
-pub returns-in_default-10 : goal.returns-in_default-10
-returns-in_default-10 c = unknown _ _ _ _ 0x87 121 refl (omega arith) (omega arith)
+returns-in_default c = unknown _ _ _ _ (grind (arith, nat_tests)) c.ranges.command.fits

@@ -1,4 +1,3 @@
-pub mod Pile
 pub mod QStore
 pub mod Registers
 pub mod Sound

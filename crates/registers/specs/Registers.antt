@@ -1,6 +1,6 @@
 -- The registers of a program: what they hold, and how an order names and changes them.
 --   Regs         what the registers hold; nest and links begin with the newest
---   regs_of      what the registers of the code hold
+--   bits_of      the number that the bits of a word are
 --   no_regs      what new registers hold
 --   N1, N2, N3   the words on top of the nest; signed_n1, signed_n2: as numbers
 --   link, q_of   the newest link, and the Q of a number
@@ -9,13 +9,11 @@
 --   go_if b a    a jump to place a if b; overflow_if b: V set if b
 --   push_number  the word of a number onto the nest, V set if the number is that of no word
 --   with_..      one register replaced
-use Rattle.std.specs.Prelude.{ℕ, Bool, false, cond, ◌||◌, List, [], ◌∷◌, map, ℤ}
+use Rattle.std.specs.Prelude.{ℕ, Bool, false, cond, ◌||◌, List, [], ◌∷◌, ℤ}
 use Rattle.word.specs.Wrap.{wrap, signed, outside}
 use Rattle.word.specs.declared.q.Q.{Q}
 use Rattle.word.specs.declared.word.Word.{Word}
-use Rattle.registers.specs.Pile.{stacked}
 use Rattle.registers.specs.QStore.{no_qs, q_at, q_put}
-use Rattle.registers.specs.declared.registers.Registers.{Registers}
 
 -- what the registers hold, nest and links with the newest first
 pub record Regs : Type 0 where
@@ -29,16 +27,6 @@ pub record Regs : Type 0 where
 -- the number that the bits of a word are
 abbrev pub bits_of : Word → ℕ
 bits_of w = w.bits
-
-abbrev pub regs_of : Registers → Regs
-regs_of r = record {
-  nest = map bits_of (stacked r.nest);
-  links = stacked r.links;
-  qs = r.q.qs;
-  overflow = r.overflow;
-  test = r.test;
-  place = r.place;
-}
 
 abbrev pub no_regs : Regs
 no_regs = record { nest = []; links = []; qs = no_qs; overflow = false; test = false; place = 0 }

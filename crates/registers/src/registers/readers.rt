@@ -2,7 +2,7 @@
 ghost use Rattle.std.specs.Prelude.{◌≡◌, ◌<◌, ◌≤◌, length};
 ghost use Rattle.std.specs.Option.{option_map};
 ghost use Rattle.std.specs.List.{slice_get};
-ghost use Rattle.registers.specs.Registers.{regs_of, bits_of, q_of};
+ghost use Rattle.registers.specs.Registers.{bits_of, q_of};
 
 use super::Registers;
 use word::q::Q;
@@ -10,64 +10,64 @@ use word::word::Word;
 
 impl Registers {
     pub fn place(&self) -> u16
-        ensures { result ≡ (regs_of self.now).place }
+        ensures { result ≡ self.now.place }
     {
         self.place
     }
 
     // V.
     pub fn overflow(&self) -> bool
-        ensures { result ≡ (regs_of self.now).overflow }
+        ensures { result ≡ self.now.overflow }
     {
         self.overflow
     }
 
     // T.
     pub fn test(&self) -> bool
-        ensures { result ≡ (regs_of self.now).test }
+        ensures { result ≡ self.now.test }
     {
         self.test
     }
 
     pub fn nest_depth(&self) -> usize
-        ensures answer { result ≡ length (regs_of self.now).nest }
+        ensures answer { result ≡ length self.now.nest }
         ensures within { result ≤ 16 }
     {
-        self.nest.depth()
+        self.nest.len()
     }
 
     pub fn link_depth(&self) -> usize
-        ensures answer { result ≡ length (regs_of self.now).links }
+        ensures answer { result ≡ length self.now.links }
         ensures within { result ≤ 16 }
     {
-        self.links.depth()
+        self.links.len()
     }
 
     // N1 is number 0.
     pub fn nest_word(&self, i: usize) -> Option<Word>
-        ensures { option_map bits_of result ≡ slice_get (regs_of self.now).nest i }
+        ensures { option_map bits_of result ≡ slice_get self.now.nest i }
     {
-        self.nest.get(i)
+        self.nest.as_slice().iter().rev().nth(i).copied()
     }
 
     // The newest is number 0.
     pub fn link(&self, i: usize) -> Option<u16>
-        ensures { result ≡ slice_get (regs_of self.now).links i }
+        ensures { result ≡ slice_get self.now.links i }
     {
-        self.links.get(i)
+        self.links.as_slice().iter().rev().nth(i).copied()
     }
 
     pub fn q(&self, i: usize) -> Option<Q>
-        ensures { result ≡ slice_get (regs_of self.now).qs i }
+        ensures { result ≡ slice_get self.now.qs i }
     {
-        self.q.get(i)
+        self.qs.get(i).copied()
     }
 
     // The Q that an order names.
     pub fn q_of(&self, q: u8) -> Q
         requires { q < 16 }
-        ensures { result ≡ q_of q (regs_of self.now) }
+        ensures { result ≡ q_of q self.now }
     {
-        self.q.at(q)
+        self.qs[usize::from(q)]
     }
 }

@@ -1,6 +1,0 @@
-// What holds of the registers of every program, whatever its orders did.
-ghost use Rattle.registers.specs.Sound.{AlwaysSound};
-
-pub fn registers_sound()
-    ensures { AlwaysSound }
-{}

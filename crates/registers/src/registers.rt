@@ -56,6 +56,6 @@ impl Registers {
     pub fn sound(&self)
         ensures { Sound self.now }
     {
-        let _ = self.place;
+        let _ = self.nest.len();
     }
 }

@@ -1,8 +1,10 @@
 // The changes that the orders are made of.
-ghost use Rattle.std.specs.Prelude.{◌≡◌, ◌+◌, ◌<◌, length};
+ghost use Rattle.std.specs.Prelude.{◌≡◌, ◌+◌, ◌<◌, length, false};
 ghost use Rattle.registers.specs.Registers.{N1, link, push, pop, push_link, pop_link, put_q, with_place, with_overflow, with_test};
 
 use super::Registers;
+use order::code::QNumber;
+use std::mem;
 use word::q::Q;
 use word::word::Word;
 
@@ -43,12 +45,12 @@ impl Registers {
     }
 
     // A write to Q0 is lost.
-    pub fn put_q(&mut self, q: u8, value: Q)
-        requires { q < 16 }
+    pub fn put_q(&mut self, q: QNumber, value: Q)
         ensures { self.new ≡ put_q q value self.old }
     {
-        if q != 0 {
-            self.qs[usize::from(q)] = value;
+        let number = q.get();
+        if number != 0 {
+            self.qs[usize::from(number)] = value;
         }
     }
 
@@ -64,9 +66,25 @@ impl Registers {
         self.overflow = overflow;
     }
 
+    // V, which is left clear.
+    pub fn take_overflow(&mut self) -> bool
+        ensures answer { result ≡ self.old.overflow }
+        ensures after { self.new ≡ with_overflow false self.old }
+    {
+        mem::take(&mut self.overflow)
+    }
+
     pub fn set_test(&mut self, test: bool)
         ensures { self.new ≡ with_test test self.old }
     {
         self.test = test;
+    }
+
+    // T, which is left clear.
+    pub fn take_test(&mut self) -> bool
+        ensures answer { result ≡ self.old.test }
+        ensures after { self.new ≡ with_test false self.old }
+    {
+        mem::take(&mut self.test)
     }
 }

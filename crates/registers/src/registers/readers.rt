@@ -1,10 +1,11 @@
 // What the registers hold, for whoever asks.
-ghost use Rattle.std.specs.Prelude.{◌≡◌, ◌<◌, ◌≤◌, length};
+ghost use Rattle.std.specs.Prelude.{◌≡◌, ◌≤◌, length};
 ghost use Rattle.std.specs.Option.{option_map};
 ghost use Rattle.std.specs.List.{slice_get};
 ghost use Rattle.registers.specs.Registers.{bits_of, q_of};
 
 use super::Registers;
+use order::code::QNumber;
 use word::q::Q;
 use word::word::Word;
 
@@ -64,10 +65,9 @@ impl Registers {
     }
 
     // The Q that an order names.
-    pub fn q_of(&self, q: u8) -> Q
-        requires { q < 16 }
+    pub fn q_of(&self, q: QNumber) -> Q
         ensures { result ≡ q_of q self.now }
     {
-        self.qs[usize::from(q)]
+        self.qs[usize::from(q.get())]
     }
 }

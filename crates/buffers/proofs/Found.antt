@@ -1,7 +1,8 @@
 -- A test over the numbers below some number.
-use Rattle.std.proofs.Common.{◌≡◌, ℕ, zero, suc, ◌+◌, ◌-◌, ◌*◌, ◌/◌, ◌<◌, ◌≤◌, min, max, Bool, true, false, ◌&&◌, leb, Decides, sym, refl, ap, ◌∙◌, inl, inr, add-one, arith}
+use Rattle.std.proofs.Common.{◌≡◌, ℕ, zero, suc, ◌+◌, ◌-◌, ◌*◌, ◌/◌, ◌<◌, ◌≤◌, min, max, Bool, true, false, ◌&&◌, ◌||◌, leb, List, [], ◌∷◌, length, get_or, Decides, sym, refl, ap, ◌∙◌, inl, inr, add-one, arith}
 use Rattle.std.proofs.lemmas.Bool.Decides.{same_from_decides, Decides-below_or}
-use Rattle.std.proofs.lemmas.Bool.{cases_eq, cases_lt, or_left, or_right, or_from, and_parts, and_from, leb-true, le-leb, both_ways}
+use Rattle.std.proofs.lemmas.Bool.{cases_eq, cases_lt, or_left, or_right, or_from, and_parts, and_from, leb-true, le-leb, both_ways, false_from_ne_true}
+use Rattle.std.specs.List.{list_any}
 use Rattle.buffers.specs.Buffers.{any_below}
 
 pub any_found : (n : ℕ) (test : ℕ → Bool) (i : ℕ) → i < n → test i ≡ true → any_below n test ≡ true
@@ -12,6 +13,23 @@ any_found (suc n) test i h e =
       | inl same ↦ or_left (test n) (any_below n test) (ap test (sym same) ∙ e)
       | inr other ↦ or_right (test n) (any_below n test) (any_found n test i (omega arith) e)
     ]
+
+-- the test of the lowest number in front
+any_first : (n : ℕ) (test : ℕ → Bool) → (test 0 || any_below n (λ k. test (suc k))) ≡ any_below (suc n) test
+unfolding any_below
+any_first zero test = refl
+any_first (suc n) test = exchanged (test 0) (test (suc n)) (any_below n (λ k. test (suc k))) ∙ ap (λ b. test (suc n) || b) (any_first n test)
+  where
+    exchanged : (a b c : Bool) → (a || (b || c)) ≡ (b || (a || c))
+    exchanged true true c = refl
+    exchanged true false c = refl
+    exchanged false b c = refl
+
+-- a test that holds of an element of a list
+pub any_in : {X : Type 0} (test : X → Bool) (xs : List X) (d : X) → list_any test xs ≡ any_below (length xs) (λ k. test (get_or xs k d))
+unfolding any_below
+any_in test [] d = refl
+any_in test (x ∷ xs) d = ap (λ b. test x || b) (any_in test xs d) ∙ any_first (length xs) (λ k. test (get_or (x ∷ xs) k d))
 
 pub any_more : (test : ℕ → Bool) (i : ℕ) → any_below i test ≡ false → test i ≡ false → any_below (i + 1) test ≡ false
 unfolding any_below
@@ -96,8 +114,4 @@ any_not zero test none = refl
 any_not (suc n) test none = or_from (test n) (any_below n test) (none n) (any_not n test none)
 
 pub any_none_at : (n : ℕ) (test : ℕ → Bool) → any_below n test ≡ false → (k : ℕ) → k < n → test k ≡ false
-any_none_at n test e k h = not_true_false (test k) (λ t. both_ways (any_below n test) e (any_found n test k h t))
-  where
-    not_true_false : (b : Bool) → (b ≡ true → ⊥) → b ≡ false
-    not_true_false true f = absurd (f refl)
-    not_true_false false f = refl
+any_none_at n test e k h = false_from_ne_true (test k) (λ t. both_ways (any_below n test) e (any_found n test k h t))

@@ -3,11 +3,16 @@ use Rattle.std.proofs.Common.{◌≡◌, ℕ, ◌+◌, ◌-◌, Bool, true, fals
 use mathlib.Core.Path.{fun_ext}
 use Rattle.std.proofs.lemmas.List.{get_or_past, get_or-map, length-map}
 use Rattle.std.proofs.lemmas.Bool.{cases_lt, and_right}
+use Rattle.std.specs.List.{list_any}
 use Rattle.buffers.specs.declared.buffer.Work.{Work}
 use Rattle.buffers.specs.declared.buffer.Work.TheVariants.{Idle, Seeking, Moving}
 use Rattle.buffers.specs.declared.buffer.Buffer.{Buffer}
 use Rattle.buffers.specs.Buffers.{free, records, holds, is_moving, locks, any_below, locked_between, Quiet, released}
-use Rattle.buffers.proofs.Found.{any_and, any_swap, any_not, any_none_at}
+use Rattle.buffers.proofs.Found.{any_in, any_and, any_swap, any_not, any_none_at}
+
+-- a test that holds of one of the sixteen
+pub any_of : (test : Buffer → Bool) (table : List Buffer) → length table ≡ 16 → list_any test table ≡ any_below 16 (λ k. test (records table k))
+any_of test table long = any_in test table free ∙ ap (λ n. any_below n (λ k. test (records table k))) long
 
 -- whether buffer k of a slot locks one of the words from the first to the last address
 abbrev pub locks_here : ℕ → (ℕ → Buffer) → ℕ → ℕ → ℕ → Bool
@@ -21,10 +26,7 @@ by_words slot buffers first last =
 no_lock : (w : Work) (a : ℕ) → is_moving w ≡ false → locks w a ≡ false
 no_lock Idle a e = refl
 no_lock Seeking a e = refl
-no_lock (Moving first last) a e = let z : ◌≡◌ {A = Bool} true false = e in absurd (differ z)
-  where
-    differ : true ≡ false → ⊥
-    differ p = let q : ◌≡◌ {A = ℕ} 0 1 = cc in omega arith
+no_lock (Moving first last) a e = cc
 
 -- where no buffer moves words nothing is locked
 pub quiet_unlocked : (table : List Buffer) (slot first last : ℕ) → Quiet table → false ≡ locked_between slot (records table) first last

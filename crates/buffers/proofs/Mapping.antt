@@ -1,29 +1,32 @@
--- A list whose elements are changed in place, one after another, by one function.
-use Rattle.std.proofs.Common.{◌≡◌, ℕ, ◌+◌, ◌<◌, ◌≤◌, List, [], ◌∷◌, ◌++◌, map, length, get_or, take, drop, set, sym, ap, ◌∙◌, arith}
-use Rattle.std.proofs.lemmas.List.{append_assoc, append-nil, set_at, get_or_at, drop_more, drop_all, take_all, map_more, length-map, length-take-le}
+-- An array's `map`, where the closure computes a function.
+use Rattle.std.proofs.Common.{◌≡◌, ℕ, zero, suc, ◌+◌, ◌<◌, ◌≤◌, List, [], ◌∷◌, map, length, get_or, sym, ap, ◌∙◌, subst, inl, inr, arith}
+use denote.Param.Members.{Mut}
+use Rattle.std.specs.Fn.{Called}
+use Rattle.std.specs.Array.{IsMapOf, MapsFrom}
+use Rattle.std.proofs.lemmas.Bool.{cases_eq}
+use Rattle.std.proofs.lemmas.List.{same_lists, get_or-map, length-map}
 
-module _ {X : Type 0} (f : X → X) (xs : List X) where
-  -- the first i are changed
-  abbrev pub half_way : ℕ → List X
-  half_way i = map f (take i xs) ++ drop i xs
+one_of : {A : Type 0} (xs : List A) (k : ℕ) → k < length xs → A
+one_of [] k below = absurd (omega arith)
+one_of (x ∷ xs) k below = x
 
-  module _ (i : ℕ) (d : X) (h : i < length xs) where
-    front : length (map f (take i xs)) ≡ i
-    front = length-map (take i xs) f ∙ length-take-le i xs (omega arith)
+module _ {F A B : Type 0} (g : Mut F (A × Unit {0}) B) (f : F) (h : A → B) where
+  -- a call leaves the closure as it was
+  abbrev pub Computes : Type 0
+  Computes = (x : A) (y : B) (q : F) → Called g f (x, tt) y q → (q ≡ f) × (y ≡ h x)
 
-    rest : half_way i ≡ map f (take i xs) ++ (get_or xs i d ∷ drop (i + 1) xs)
-    rest = ap (λ ys. map f (take i xs) ++ ys) (drop_more xs i d h)
+  each : (xs : List A) (ys : List B) (i n : ℕ) → Computes → MapsFrom g f xs ys i n → (k : ℕ) (d : A) (e : B) → i ≤ k → k < i + n → get_or ys k e ≡ h (get_or xs k d)
+  each xs ys i zero computes m k d e low high = absurd (omega arith)
+  each xs ys i (suc n) computes (q, x, y, at_x, at_y, called, rest) k d e low high =
+      let said = computes x y q called in
+      elim (cases_eq k i) [
+        | inl same ↦ ap (λ j. get_or ys j e) same ∙ at_y.1 e ∙ said.1 ∙ sym (ap h (ap (λ j. get_or xs j d) same ∙ at_x.1 d))
+        | inr other ↦ each xs ys (i + 1) n computes (subst (λ p. MapsFrom g p xs ys (i + 1) n) said.0 rest) k d e (omega arith) (omega arith)
+      ]
 
-    -- the next one is still as it was, and is changed
-    pub mapped_more : {ys : List X} {y : X} → ys ≡ half_way i → y ≡ f (get_or ys i d) → set ys i y ≡ half_way (i + 1)
-    mapped_more {ys} {y} ey e =
-        let here : get_or ys i d ≡ get_or xs i d = ap (λ zs. get_or zs i d) (ey ∙ rest) ∙ get_or_at (map f (take i xs)) (get_or xs i d) (drop (i + 1) xs) d i front in
-        ap (λ zs. set zs i y) (ey ∙ rest)
-        ∙ set_at (map f (take i xs)) (get_or xs i d) (drop (i + 1) xs) y i front
-        ∙ ap (λ z. map f (take i xs) ++ (z ∷ drop (i + 1) xs)) (e ∙ ap f here)
-        ∙ sym (append_assoc (map f (take i xs)) (f (get_or xs i d) ∷ []) (drop (i + 1) xs))
-        ∙ ap (λ zs. zs ++ drop (i + 1) xs) (sym (map_more f xs i d h))
-
-  pub mapped_all : (i : ℕ) {ys : List X} → length xs ≤ i → ys ≡ half_way i → ys ≡ map f xs
-  mapped_all i h e =
-      e ∙ ap (λ zs. map f zs ++ drop i xs) (take_all i xs h) ∙ ap (λ zs. map f xs ++ zs) (drop_all i xs h) ∙ append-nil (map f xs)
+pub mapped : {F A B : Type 0} {g : Mut F (A × Unit {0}) B} {f : F} (h : A → B) (xs : List A) (ys : List B) (n : ℕ) → length xs ≡ n → IsMapOf g f xs ys n → Computes g f h → ys ≡ map h xs
+mapped {g} {f} h xs ys n long m computes =
+    same_lists ys (map h xs) (m.long ∙ sym long ∙ sym (length-map xs h)) (λ k e lt.
+    let below : k < length xs = omega (arith, m.long) in
+    let d = one_of xs k below in
+    each g f h xs ys 0 n computes m.each k d e (omega arith) (omega (arith, m.long)) ∙ sym (get_or-map h xs k d e below))

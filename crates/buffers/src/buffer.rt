@@ -4,7 +4,7 @@ ghost use Rattle.buffers.specs.Buffers.{holds, is_busy, is_moving, locks, any_be
 ghost use Rattle.buffers.specs.declared.buffer.Work.TheVariants.{Moving};
 
 // Idle, busy with a seek, or busy with the words from the first to the last address, whose groups are locked.
-#[derive(Clone, Copy)]
+#[derive(Clone, Copy, PartialEq, Eq, Debug)]
 pub enum Work {
     Idle,
     Seeking,
@@ -12,7 +12,7 @@ pub enum Work {
 }
 
 // The slot that it is allotted to, if any, and its work.
-#[derive(Clone, Copy)]
+#[derive(Clone, Copy, PartialEq, Eq, Debug)]
 pub struct Buffer {
     pub owner: Option<u8>,
     pub work: Work,
@@ -22,19 +22,13 @@ impl Work {
     pub fn is_busy(self) -> bool
         ensures { result ≡ is_busy self }
     {
-        match self {
-            Work::Idle => false,
-            Work::Seeking | Work::Moving(_, _) => true,
-        }
+        !matches!(self, Work::Idle)
     }
 
     pub(crate) fn is_moving(self) -> bool
         ensures { result ≡ is_moving self }
     {
-        match self {
-            Work::Idle | Work::Seeking => false,
-            Work::Moving(_, _) => true,
-        }
+        matches!(self, Work::Moving(_, _))
     }
 
     // Whether it locks one of the words from the first to the last address.
@@ -56,14 +50,17 @@ fn groups_meet(from: u16, to: u16, first: u16, last: u16) -> bool
 }
 
 impl Buffer {
+    // Nobody's and idle.
+    pub(crate) const FREE: Buffer = Buffer {
+        owner: None,
+        work: Work::Idle,
+    };
+
     // Whether it is a slot's.
     pub fn is_held_by(self, slot: u8) -> bool
         ensures { result ≡ holds slot self }
     {
-        match self.owner {
-            Some(owner) => owner == slot,
-            None => false,
-        }
+        self.owner == Some(slot)
     }
 
     // Whether it is a slot's and busy.
@@ -78,10 +75,7 @@ impl Buffer {
         ensures { result ≡ released slot self }
     {
         if self.is_held_by(slot) {
-            Buffer {
-                owner: None,
-                work: Work::Idle,
-            }
+            Buffer::FREE
         } else {
             self
         }

@@ -12,10 +12,7 @@ impl Buffers {
         ensures { result.table ≡ replicate 16 free }
     {
         Buffers {
-            table: [Buffer {
-                owner: None,
-                work: Work::Idle,
-            }; 16],
+            table: [Buffer::FREE; 16],
             moving: false,
         }
     }
@@ -24,9 +21,10 @@ impl Buffers {
     pub fn begin(&mut self, n: u8, work: Work)
         ensures { self.new.table ≡ slice_set self.old.table n (with_work work (records self.old.table n)) }
     {
-        if n < 16 {
+        let n = usize::from(n);
+        if n < self.table.len() {
+            self.table[n].work = work;
             self.moving = self.moving || work.is_moving();
-            self.table[n as usize].work = work;
         }
     }
 
@@ -34,8 +32,9 @@ impl Buffers {
     pub fn end(&mut self, n: u8)
         ensures { self.new.table ≡ slice_set self.old.table n (with_work Idle (records self.old.table n)) }
     {
-        if n < 16 {
-            self.table[n as usize].work = Work::Idle;
+        let n = usize::from(n);
+        if n < self.table.len() {
+            self.table[n].work = Work::Idle;
             self.moving = self.any_moving();
         }
     }
@@ -44,8 +43,9 @@ impl Buffers {
     pub fn allot(&mut self, n: u8, slot: u8)
         ensures { self.new.table ≡ slice_set self.old.table n (with_owner slot (records self.old.table n)) }
     {
-        if n < 16 {
-            self.table[n as usize].owner = Some(slot);
+        let n = usize::from(n);
+        if n < self.table.len() {
+            self.table[n].owner = Some(slot);
         }
     }
 
@@ -53,10 +53,6 @@ impl Buffers {
     pub fn release(&mut self, slot: u8)
         ensures { self.new.table ≡ map (released slot) self.old.table }
     {
-        let mut table = self.table;
-        for k in 0..16u8 {
-            table[k as usize] = table[k as usize].released_by(slot);
-        }
-        self.table = table;
+        self.table = self.table.map(|buffer| buffer.released_by(slot));
     }
 }

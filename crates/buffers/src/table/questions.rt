@@ -10,13 +10,10 @@ impl Buffers {
     pub fn record(&self, n: u16) -> Buffer
         ensures { result ≡ records self.now.table n }
     {
-        if n > 15 {
-            return Buffer {
-                owner: None,
-                work: Work::Idle,
-            };
-        }
-        self.table[n as usize]
+        self.table
+            .get(usize::from(n))
+            .copied()
+            .unwrap_or(Buffer::FREE)
     }
 
     // What a slot's buffer is at; nothing where it is not the slot's.
@@ -24,51 +21,30 @@ impl Buffers {
         ensures { result ≡ work_of slot (records self.now.table n) }
     {
         let buffer = self.record(n);
-        if buffer.is_held_by(slot) {
-            Some(buffer.work)
-        } else {
-            None
-        }
+        buffer.is_held_by(slot).then_some(buffer.work)
     }
 
     // Whether a slot's buffers lock one of the words from the first to the last address.
     pub fn locked(&self, slot: u8, first: u16, last: u16) -> bool
         ensures { result ≡ locked_between slot (records self.now.table) first last }
     {
-        self.moving && self.any_locks(slot, first, last)
-    }
-
-    fn any_locks(&self, slot: u8, first: u16, last: u16) -> bool
-        ensures { result ≡ locked_between slot (records self.now.table) first last }
-    {
-        for k in 0..16u8 {
-            if self.table[k as usize].locks_for(slot, first, last) {
-                return true;
-            }
-        }
-        false
+        self.moving
+            && self
+                .table
+                .iter()
+                .any(|buffer| buffer.locks_for(slot, first, last))
     }
 
     // Whether a slot has a busy buffer.
     pub fn any_busy(&self, slot: u8) -> bool
         ensures { result ≡ busy_of slot (records self.now.table) }
     {
-        for k in 0..16u8 {
-            if self.table[k as usize].is_busy_for(slot) {
-                return true;
-            }
-        }
-        false
+        self.table.iter().any(|buffer| buffer.is_busy_for(slot))
     }
 
     pub(super) fn any_moving(&self) -> bool
         ensures { result ≡ any_below 16 (λ k. is_moving (records self.now.table k).work) }
     {
-        for k in 0..16u8 {
-            if self.table[k as usize].work.is_moving() {
-                return true;
-            }
-        }
-        false
+        self.table.iter().any(|buffer| buffer.work.is_moving())
     }
 }

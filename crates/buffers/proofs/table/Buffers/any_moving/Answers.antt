@@ -1,16 +1,14 @@
-use Rattle.std.proofs.Common.{sym, arith}
-use Rattle.buffers.specs.Buffers.{records, is_moving}
-use Rattle.buffers.proofs.Found.{any_none, any_found, any_more, any_all}
+use Rattle.std.proofs.Common.{◌∙◌, rules}
+use borrow.Author.Tests.{tests}
+use Rattle.std.proofs.lemmas.Iterator.{YieldsList-from_slice}
+use Rattle.std.proofs.lemmas.Iterator.Search.{any_from_yields_List}
+use Rattle.buffers.specs.declared.buffer.Buffer.{Buffer}
+use Rattle.buffers.specs.Buffers.{is_moving}
+use Rattle.buffers.proofs.Locks.{any_of}
 use Rattle.buffers.proofs.table.Buffers.any_moving.Goals as goal
 
-pub loop-k-init : goal.loop-k-init
-loop-k-init c = any_none _
-
-pub loop-k-preserved : goal.loop-k-preserved
-loop-k-preserved c = any_more (λ k. is_moving (records c.args.self.now.table k).work) c.loop-k.k c.loop-k.invariant (sym c.if-is_moving.ensures)
-
-pub returns-then-is_moving : goal.returns-then-is_moving
-returns-then-is_moving c = sym (any_found 16 (λ k. is_moving (records c.args.self.now.table k).work) c.loop-k.k c.loop-k-test.true (sym c.if-is_moving.ensures))
-
 pub returns : goal.returns
-returns c = any_all 16 (λ k. is_moving (records c.args.self.now.table k).work) c.loop-k.k (omega arith) c.loop-k.invariant
+returns c =
+    let test = λ (b : Buffer). is_moving b.work in
+    any_from_yields_List test _ _ c.any.result c.any.ensures.ran (YieldsList-from_slice c.args.self.now.table cc) (λ x b q k. search (rules, tests))
+    ∙ any_of test c.args.self.now.table c.args.self.now.sixteen

@@ -1,8 +1,7 @@
 // How an order on the registers is carried out. The place is already that of the next order.
 ghost use Rattle.std.specs.Prelude.{true, ◌≡◌};
 ghost use Rattle.order.specs.Cells.{register_cells, out_cells};
-ghost use Rattle.order.specs.Shape.{RegisterWithin};
-ghost use Rattle.registers.specs.Registers.{regs_of, N1, pop};
+ghost use Rattle.registers.specs.Registers.{N1, pop};
 ghost use Rattle.registers.specs.Enough.{Enough};
 ghost use Rattle.register_orders.specs.Shifts.{shift_fits};
 ghost use Rattle.register_orders.specs.Effects.{effect};
@@ -19,10 +18,9 @@ use registers::registers::Registers;
 use word::word::Word;
 
 pub fn carry_out(order: RegisterOrder, regs: &mut Registers)
-    requires numbers { RegisterWithin order }
-    requires cells { Enough (register_cells order) (regs_of regs.old) }
-    requires length { shift_fits order (regs_of regs.old) ≡ true }
-    ensures { regs_of regs.new ≡ effect order (regs_of regs.old) }
+    requires cells { Enough (register_cells order) regs.old }
+    requires length { shift_fits order regs.old ≡ true }
+    ensures { regs.new ≡ effect order regs.old }
 {
     match order {
         RegisterOrder::Move(o) => move_words(o, regs),
@@ -37,7 +35,7 @@ pub fn carry_out(order: RegisterOrder, regs: &mut Registers)
         RegisterOrder::ShiftBy(kind, by) => shift(kind, i16::from(by), regs),
         RegisterOrder::Exit(halves) => exit(halves, regs),
         RegisterOrder::Jump(condition, to) => jump(condition, to, regs),
-        RegisterOrder::Set(number) => regs.push_word(Word::from_i16(number)),
+        RegisterOrder::Set(number) => regs.push_word(Word::from(number)),
         RegisterOrder::JumpCount(test, q, to) => jump_on_count(test, q, to, regs),
         RegisterOrder::Copy(parts, k, q) => copy_parts(parts, k, q, regs),
     }
@@ -45,9 +43,9 @@ pub fn carry_out(order: RegisterOrder, regs: &mut Registers)
 
 // OUT: N1, removed.
 pub fn out(regs: &mut Registers) -> Word
-    requires { Enough out_cells (regs_of regs.old) }
-    ensures answer { result.bits ≡ N1 (regs_of regs.old) }
-    ensures after { regs_of regs.new ≡ pop (regs_of regs.old) }
+    requires { Enough out_cells regs.old }
+    ensures answer { result.bits ≡ N1 regs.old }
+    ensures after { regs.new ≡ pop regs.old }
 {
     regs.pop_word()
 }

@@ -1,7 +1,6 @@
 // The orders on V, T and the links.
 ghost use Rattle.std.specs.Prelude.{◌≡◌};
 ghost use Rattle.order.specs.Cells.{control_cells};
-ghost use Rattle.registers.specs.Registers.{regs_of};
 ghost use Rattle.registers.specs.Enough.{Enough};
 ghost use Rattle.register_orders.specs.Controls.{controlled};
 
@@ -10,8 +9,8 @@ use registers::registers::Registers;
 use word::q::{link_word, word_part};
 
 pub(crate) fn control(order: ControlOrder, regs: &mut Registers)
-    requires { Enough (control_cells order) (regs_of regs.old) }
-    ensures { regs_of regs.new ≡ controlled order (regs_of regs.old) }
+    requires { Enough (control_cells order) regs.old }
+    ensures { regs.new ≡ controlled order regs.old }
 {
     match order {
         ControlOrder::Dummy => {}

@@ -1,15 +1,13 @@
 // Copies of parts of one Q to another.
-ghost use Rattle.std.specs.Prelude.{◌≡◌, ◌<◌};
-ghost use Rattle.registers.specs.Registers.{regs_of};
+ghost use Rattle.std.specs.Prelude.{◌≡◌};
 ghost use Rattle.register_orders.specs.Copies.{copy, copied};
 
-use order::code::Parts;
+use order::code::{Parts, QNumber};
 use registers::registers::Registers;
 use word::q::Q;
 
-pub(crate) fn copy_parts(which: Parts, k: u8, q: u8, regs: &mut Registers)
-    requires { (k < 16) × (q < 16) }
-    ensures { regs_of regs.new ≡ copied which k q (regs_of regs.old) }
+pub(crate) fn copy_parts(which: Parts, k: QNumber, q: QNumber, regs: &mut Registers)
+    ensures { regs.new ≡ copied which k q regs.old }
 {
     let new = merged(which, regs.q_of(k), regs.q_of(q));
     regs.put_q(q, new);

@@ -1,16 +1,16 @@
 // Jumps. The place is already that of the next order.
-ghost use Rattle.std.specs.Prelude.{false, ◌≡◌, ℕ, ◌<◌};
+ghost use Rattle.std.specs.Prelude.{◌≡◌, ℕ};
 ghost use Rattle.order.specs.Cells.{jump_cells, exit_cells};
-ghost use Rattle.registers.specs.Registers.{regs_of, go_if, with_test, with_overflow};
+ghost use Rattle.registers.specs.Registers.{go_if};
 ghost use Rattle.registers.specs.Enough.{Enough};
 ghost use Rattle.register_orders.specs.Jumps.{jumped, jumped_on_count, exited};
 
-use order::code::{Condition, CountTest};
+use order::code::{Condition, CountTest, QNumber};
 use registers::registers::Registers;
 
 pub(crate) fn jump(condition: Condition, to: u16, regs: &mut Registers)
-    requires { Enough (jump_cells condition) (regs_of regs.old) }
-    ensures { regs_of regs.new ≡ jumped condition to (regs_of regs.old) }
+    requires { Enough (jump_cells condition) regs.old }
+    ensures { regs.new ≡ jumped condition to regs.old }
 {
     let met = meets(condition, regs);
     jump_if(met, to, regs);
@@ -18,8 +18,8 @@ pub(crate) fn jump(condition: Condition, to: u16, regs: &mut Registers)
 
 // Whether to jump, after what the test takes or clears.
 fn meets(condition: Condition, regs: &mut Registers) -> bool
-    requires { Enough (jump_cells condition) (regs_of regs.old) }
-    ensures { (a : ℕ) → jumped condition a (regs_of regs.old) ≡ go_if result a (regs_of regs.new) }
+    requires { Enough (jump_cells condition) regs.old }
+    ensures { (a : ℕ) → jumped condition a regs.old ≡ go_if result a regs.new }
 {
     match condition {
         Condition::Always => true,
@@ -38,42 +38,23 @@ fn meets(condition: Condition, regs: &mut Registers) -> bool
         Condition::IfNestNotEmpty => regs.nest_depth() != 0,
         Condition::IfLinksEmpty => regs.link_depth() == 0,
         Condition::IfLinksNotEmpty => regs.link_depth() != 0,
-        Condition::IfTest => take_test(regs),
-        Condition::IfNotTest => !take_test(regs),
-        Condition::IfOverflow => take_overflow(regs),
-        Condition::IfNotOverflow => !take_overflow(regs),
+        Condition::IfTest => regs.take_test(),
+        Condition::IfNotTest => !regs.take_test(),
+        Condition::IfOverflow => regs.take_overflow(),
+        Condition::IfNotOverflow => !regs.take_overflow(),
     }
 }
 
-fn take_test(regs: &mut Registers) -> bool
-    ensures answer { result ≡ (regs_of regs.old).test }
-    ensures after { regs_of regs.new ≡ with_test false (regs_of regs.old) }
-{
-    let was = regs.test();
-    regs.set_test(false);
-    was
-}
-
-fn take_overflow(regs: &mut Registers) -> bool
-    ensures answer { result ≡ (regs_of regs.old).overflow }
-    ensures after { regs_of regs.new ≡ with_overflow false (regs_of regs.old) }
-{
-    let was = regs.overflow();
-    regs.set_overflow(false);
-    was
-}
-
 fn jump_if(met: bool, to: u16, regs: &mut Registers)
-    ensures { regs_of regs.new ≡ go_if met to (regs_of regs.old) }
+    ensures { regs.new ≡ go_if met to regs.old }
 {
     if met {
         regs.go_to(to);
     }
 }
 
-pub(crate) fn jump_on_count(test: CountTest, q: u8, to: u16, regs: &mut Registers)
-    requires { q < 16 }
-    ensures { regs_of regs.new ≡ jumped_on_count test q to (regs_of regs.old) }
+pub(crate) fn jump_on_count(test: CountTest, q: QNumber, to: u16, regs: &mut Registers)
+    ensures { regs.new ≡ jumped_on_count test q to regs.old }
 {
     let count = regs.q_of(q).c;
     match test {
@@ -84,8 +65,8 @@ pub(crate) fn jump_on_count(test: CountTest, q: u8, to: u16, regs: &mut Register
 
 // Three syllables to a half word.
 pub(crate) fn exit(halves: u8, regs: &mut Registers)
-    requires { Enough exit_cells (regs_of regs.old) }
-    ensures { regs_of regs.new ≡ exited halves (regs_of regs.old) }
+    requires { Enough exit_cells regs.old }
+    ensures { regs.new ≡ exited halves regs.old }
 {
     let link = regs.pop_link();
     regs.go_to(link.wrapping_add(3 * u16::from(halves)));

@@ -1,7 +1,7 @@
 // Moves of words on the nest.
 ghost use Rattle.std.specs.Prelude.{◌≡◌, ◌+◌, ◌≤◌, length};
 ghost use Rattle.order.specs.Cells.{move_cells};
-ghost use Rattle.registers.specs.Registers.{regs_of, N1, N2, N3, push, pop};
+ghost use Rattle.registers.specs.Registers.{N1, N2, N3, push, pop};
 ghost use Rattle.registers.specs.Enough.{Enough};
 ghost use Rattle.register_orders.specs.Moves.{moved};
 
@@ -10,8 +10,8 @@ use registers::registers::Registers;
 use word::word::Word;
 
 pub(crate) fn move_words(order: MoveOrder, regs: &mut Registers)
-    requires { Enough (move_cells order) (regs_of regs.old) }
-    ensures { regs_of regs.new ≡ moved order (regs_of regs.old) }
+    requires { Enough (move_cells order) regs.old }
+    ensures { regs.new ≡ moved order regs.old }
 {
     match order {
         MoveOrder::Zero => regs.push_word(Word::new(0)),
@@ -42,12 +42,12 @@ pub(crate) fn move_words(order: MoveOrder, regs: &mut Registers)
 
 // N1, N2 and N3, removed.
 fn pop_three(regs: &mut Registers) -> (Word, Word, Word)
-    requires { 3 ≤ length (regs_of regs.old).nest }
-    ensures n1 { result.0.bits ≡ N1 (regs_of regs.old) }
-    ensures n2 { result.1.bits ≡ N2 (regs_of regs.old) }
-    ensures n3 { result.2.bits ≡ N3 (regs_of regs.old) }
-    ensures after { regs_of regs.new ≡ pop (pop (pop (regs_of regs.old))) }
-    ensures room { length (regs_of regs.new).nest + 3 ≤ 16 }
+    requires { 3 ≤ length regs.old.nest }
+    ensures n1 { result.0.bits ≡ N1 regs.old }
+    ensures n2 { result.1.bits ≡ N2 regs.old }
+    ensures n3 { result.2.bits ≡ N3 regs.old }
+    ensures after { regs.new ≡ pop (pop (pop regs.old)) }
+    ensures room { length regs.new.nest + 3 ≤ 16 }
 {
     let n1 = regs.pop_word();
     let n2 = regs.pop_word();
@@ -57,8 +57,8 @@ fn pop_three(regs: &mut Registers) -> (Word, Word, Word)
 
 // What are to be N1, N2 and N3.
 fn push_three(n1: Word, n2: Word, n3: Word, regs: &mut Registers)
-    requires { length (regs_of regs.old).nest + 3 ≤ 16 }
-    ensures { regs_of regs.new ≡ push n1.bits (push n2.bits (push n3.bits (regs_of regs.old))) }
+    requires { length regs.old.nest + 3 ≤ 16 }
+    ensures { regs.new ≡ push n1.bits (push n2.bits (push n3.bits regs.old)) }
 {
     regs.push_word(n3);
     regs.push_word(n2);

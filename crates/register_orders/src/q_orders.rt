@@ -1,24 +1,23 @@
 // The orders on one Q.
-ghost use Rattle.std.specs.Prelude.{◌≡◌, ◌<◌};
+ghost use Rattle.std.specs.Prelude.{◌≡◌};
 ghost use Rattle.order.specs.Cells.{q_cells};
-ghost use Rattle.registers.specs.Registers.{regs_of};
 ghost use Rattle.registers.specs.Enough.{Enough};
 ghost use Rattle.register_orders.specs.QOrders.{on_q};
 
-use order::code::QOrder;
+use order::code::{QNumber, QOrder};
 use registers::registers::Registers;
 use word::q::{Q, part_word, word_part};
+use word::word::Word;
 
 const RESET: Q = Q { c: 0, i: 1, m: 0 };
 
-pub(crate) fn change_q(order: QOrder, q: u8, regs: &mut Registers)
-    requires number { q < 16 }
-    requires cells { Enough (q_cells order) (regs_of regs.old) }
-    ensures { regs_of regs.new ≡ on_q order q (regs_of regs.old) }
+pub(crate) fn change_q(order: QOrder, q: QNumber, regs: &mut Registers)
+    requires { Enough (q_cells order) regs.old }
+    ensures { regs.new ≡ on_q order q regs.old }
 {
     let old = regs.q_of(q);
     let new = match order {
-        QOrder::PushQ => return regs.push_word(old.word()),
+        QOrder::PushQ => return regs.push_word(Word::from(old)),
         QOrder::PushC => return regs.push_word(part_word(old.c)),
         QOrder::PushI => return regs.push_word(part_word(old.i)),
         QOrder::PushM => return regs.push_word(part_word(old.m)),
@@ -30,7 +29,7 @@ pub(crate) fn change_q(order: QOrder, q: u8, regs: &mut Registers)
         QOrder::SetMinusOne => old.with_i(0xffff),
         QOrder::SetTwo => old.with_i(2),
         QOrder::SetMinusTwo => old.with_i(0xfffe),
-        QOrder::TakeQ => Q::from_word(regs.pop_word()),
+        QOrder::TakeQ => Q::from(regs.pop_word()),
         QOrder::TakeC => old.with_c(word_part(regs.pop_word())),
         QOrder::TakeI => old.with_i(word_part(regs.pop_word())),
         QOrder::TakeM => old.with_m(word_part(regs.pop_word())),

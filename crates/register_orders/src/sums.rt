@@ -1,7 +1,7 @@
 // The orders that replace N1, or N2 and N1, by one word.
 ghost use Rattle.std.specs.Prelude.{◌≡◌, ◌<◌, length};
 ghost use Rattle.order.specs.Cells.{unary_cells, binary_cells};
-ghost use Rattle.registers.specs.Registers.{regs_of, push, overflow_if};
+ghost use Rattle.registers.specs.Registers.{push, overflow_if};
 ghost use Rattle.registers.specs.Enough.{Enough};
 ghost use Rattle.register_orders.specs.Sums.{replaced, combined};
 
@@ -11,8 +11,8 @@ use word::word::Checked;
 
 // V stays set.
 pub(crate) fn push_checked(x: Checked, regs: &mut Registers)
-    requires { length (regs_of regs.old).nest < 16 }
-    ensures { regs_of regs.new ≡ overflow_if x.overflow (push x.word.bits (regs_of regs.old)) }
+    requires { length regs.old.nest < 16 }
+    ensures { regs.new ≡ overflow_if x.overflow (push x.word.bits regs.old) }
 {
     let was = regs.overflow();
     regs.push_word(x.word);
@@ -20,8 +20,8 @@ pub(crate) fn push_checked(x: Checked, regs: &mut Registers)
 }
 
 pub(crate) fn replace(order: UnaryOrder, regs: &mut Registers)
-    requires { Enough unary_cells (regs_of regs.old) }
-    ensures { regs_of regs.new ≡ replaced order (regs_of regs.old) }
+    requires { Enough unary_cells regs.old }
+    ensures { regs.new ≡ replaced order regs.old }
 {
     let n1 = regs.pop_word();
     match order {
@@ -33,8 +33,8 @@ pub(crate) fn replace(order: UnaryOrder, regs: &mut Registers)
 }
 
 pub(crate) fn combine(order: BinaryOrder, regs: &mut Registers)
-    requires { Enough binary_cells (regs_of regs.old) }
-    ensures { regs_of regs.new ≡ combined order (regs_of regs.old) }
+    requires { Enough binary_cells regs.old }
+    ensures { regs.new ≡ combined order regs.old }
 {
     let n1 = regs.pop_word();
     let n2 = regs.pop_word();

@@ -8,8 +8,8 @@ use crate::code::RegisterOrder::{
 };
 use crate::code::{Order, Undecoded, q};
 use crate::groups::{
-    condition, control_order, count_test, indexed_order, nest_order, parts, q_order, shift_by,
-    shift_by_count, store_order, transfer_order,
+    condition, control_order, count_test, indexed_order, kind_of_shift, nest_order, parts, q_order,
+    store_order, transfer_order,
 };
 
 // A two-byte operand, the higher byte first.
@@ -28,9 +28,9 @@ pub fn decode(command: u8, x: u8, y: u8, z: u8) -> Result<Order, Undecoded>
         0x11..=0x15 => Ok(Register(Control(control_order(command)))),
         0x16 => Ok(Out),
         0x20..=0x32 if x <= 15 => Ok(Register(Q(q_order(command), q(x)))),
-        0x33..=0x35 if x <= 15 => Ok(Register(ShiftByCount(shift_by_count(command), q(x)))),
+        0x33..=0x35 if x <= 15 => Ok(Register(ShiftByCount(kind_of_shift(command), q(x)))),
         0x38..=0x3d if x <= 15 => Ok(Transfer(transfer_order(command), q(x))),
-        0x40..=0x42 => Ok(Register(ShiftBy(shift_by(command), x.cast_signed()))),
+        0x40..=0x42 => Ok(Register(ShiftBy(kind_of_shift(command), x.cast_signed()))),
         0x43 => Ok(Register(Exit(x))),
         0x50..=0x5f => Ok(Register(Jump(condition(command), pair(x, y)))),
         0x60 => Ok(Register(Set(pair(x, y).cast_signed()))),

@@ -1,5 +1,5 @@
 // The orders of the groups, by their command byte.
-ghost use Rattle.std.specs.Prelude.{◌≡◌, ◌≤◌, Some};
+ghost use Rattle.std.specs.Prelude.{◌≡◌, ◌≤◌, ◌⊎◌, Some};
 ghost use Rattle.order.specs.Orders.{form_of, alone, control, on_q, shift_by_c, transfer, shift, jump, jump_count, store, indexed, copy};
 ghost use Rattle.order.specs.declared.code.Order.TheVariants.{Register};
 
@@ -75,14 +75,16 @@ pub(crate) fn q_order(command: u8) -> QOrder
     }
 }
 
-pub(crate) fn shift_by_count(command: u8) -> Shift
-    requires { (0x33 ≤ command) × (command ≤ 0x35) }
-    ensures { form_of command ≡ Some (shift_by_c result) }
+// By the C part of a Q, or by a number that stands in the order.
+pub(crate) fn kind_of_shift(command: u8) -> Shift
+    requires { ((0x33 ≤ command) × (command ≤ 0x35)) ⊎ ((0x40 ≤ command) × (command ≤ 0x42)) }
+    ensures by_count { command ≤ 0x35 → form_of command ≡ Some (shift_by_c result) }
+    ensures by_number { 0x40 ≤ command → form_of command ≡ Some (shift result) }
 {
     match command {
-        0x33 => Shift::Arithmetic,
-        0x34 => Shift::Logical,
-        0x35 => Shift::Cyclic,
+        0x33 | 0x40 => Shift::Arithmetic,
+        0x34 | 0x41 => Shift::Logical,
+        0x35 | 0x42 => Shift::Cyclic,
         _ => unreachable(),
     }
 }
@@ -98,18 +100,6 @@ pub(crate) fn transfer_order(command: u8) -> TransferOrder
         0x3b => TransferOrder::WriteToEnd,
         0x3c => TransferOrder::Seek,
         0x3d => TransferOrder::Busy,
-        _ => unreachable(),
-    }
-}
-
-pub(crate) fn shift_by(command: u8) -> Shift
-    requires { (0x40 ≤ command) × (command ≤ 0x42) }
-    ensures { form_of command ≡ Some (shift result) }
-{
-    match command {
-        0x40 => Shift::Arithmetic,
-        0x41 => Shift::Logical,
-        0x42 => Shift::Cyclic,
         _ => unreachable(),
     }
 }

@@ -18,7 +18,7 @@ pub returns-in-22 : goal.returns-in-22
 returns-in-22 c = decoded _ _ _ _ (alone Out) (ap form_of c.in-22.is) refl refl
 
 pub returns-in-64-to-66 : goal.returns-in-64-to-66
-returns-in-64-to-66 c = decoded _ _ _ _ (shift c.shift_by.result) c.shift_by.ensures refl (ap (λ n. Register (ShiftBy c.shift_by.result n)) (signed_back w8 c.args.x c.cast_signed-in-64-to-66.result c.cast_signed-in-64-to-66.ensures c.ranges.x.fits))
+returns-in-64-to-66 c = decoded _ _ _ _ (shift c.kind_of_shift-in-64-to-66.result) (c.kind_of_shift-in-64-to-66.ensures.by_number (omega arith)) refl (ap (λ n. Register (ShiftBy c.kind_of_shift-in-64-to-66.result n)) (signed_back w8 c.args.x c.cast_signed-in-64-to-66.result c.cast_signed-in-64-to-66.ensures c.ranges.x.fits))
 
 pub returns-in-67 : goal.returns-in-67
 returns-in-67 c = decoded _ _ _ _ exit (ap form_of c.in-67.is) refl refl
@@ -34,7 +34,7 @@ pub returns-in-32-to-50 : goal.returns-in-32-to-50
 returns-in-32-to-50 c = decoded _ _ _ _ (on_q c.q_order.result) c.q_order.ensures (grind (arith, nat_tests)) (cc)
 
 pub returns-in-51-to-53 : goal.returns-in-51-to-53
-returns-in-51-to-53 c = decoded _ _ _ _ (shift_by_c c.shift_by_count.result) c.shift_by_count.ensures (grind (arith, nat_tests)) (cc)
+returns-in-51-to-53 c = decoded _ _ _ _ (shift_by_c c.kind_of_shift.result) (c.kind_of_shift.ensures.by_count (omega arith)) (grind (arith, nat_tests)) (cc)
 
 pub returns-in-56-to-61 : goal.returns-in-56-to-61
 returns-in-56-to-61 c = decoded _ _ _ _ (transfer c.transfer_order.result) c.transfer_order.ensures (grind (arith, nat_tests)) (cc)

@@ -14,21 +14,10 @@ fn main(rt: HostRuntime) -> anyhow::Result<()> {
 
 fn run(rt: &HostRuntime) -> anyhow::Result<()> {
     let values = fs::read_to_string(rt, "order-values.txt")?;
-    let mut tally = Tally::NONE;
-    for line in values.lines() {
-        if !line.starts_with('#') {
-            compare(rt, line, &mut tally)?;
-        }
+    let mut tally = Tally::default();
+    for line in values.lines().filter(|line| !line.starts_with('#')) {
+        compare(rt, line, &mut tally)?;
     }
-    let Tally {
-        orders,
-        unknown,
-        operand,
-        agree,
-        differ,
-    } = tally;
-    println!(rt; "{orders} orders, {unknown} unknown commands, {operand} with q or k over 15")?;
-    let all = agree.saturating_add(differ);
-    println!(rt; "{all} values, {agree} agree, {differ} differ")?;
+    println!(rt; "{tally}")?;
     Ok(())
 }

@@ -4,154 +4,175 @@ use order::code::{
     StoreOrder, TransferOrder, UnaryOrder,
 };
 
-pub(crate) fn move_name(order: MoveOrder) -> &'static str {
-    match order {
-        MoveOrder::Zero => "ZERO",
-        MoveOrder::Dup => "DUP",
-        MoveOrder::Erase => "ERASE",
-        MoveOrder::Rev => "REV",
-        MoveOrder::Perm => "PERM",
-        MoveOrder::Cab => "CAB",
+pub(crate) trait Name {
+    fn name(self) -> &'static str;
+}
+
+impl Name for MoveOrder {
+    fn name(self) -> &'static str {
+        match self {
+            Self::Zero => "ZERO",
+            Self::Dup => "DUP",
+            Self::Erase => "ERASE",
+            Self::Rev => "REV",
+            Self::Perm => "PERM",
+            Self::Cab => "CAB",
+        }
     }
 }
 
-pub(crate) fn unary_name(order: UnaryOrder) -> &'static str {
-    match order {
-        UnaryOrder::Neg => "NEG",
-        UnaryOrder::Abs => "ABS",
-        UnaryOrder::Not => "NOT",
-        UnaryOrder::Bits => "BITS",
+impl Name for UnaryOrder {
+    fn name(self) -> &'static str {
+        match self {
+            Self::Neg => "NEG",
+            Self::Abs => "ABS",
+            Self::Not => "NOT",
+            Self::Bits => "BITS",
+        }
     }
 }
 
-pub(crate) fn binary_name(order: BinaryOrder) -> &'static str {
-    match order {
-        BinaryOrder::Add => "+",
-        BinaryOrder::Subtract => "-",
-        BinaryOrder::Sign => "SIGN",
-        BinaryOrder::And => "AND",
-        BinaryOrder::Either => "OR",
-        BinaryOrder::Nev => "NEV",
+impl Name for BinaryOrder {
+    fn name(self) -> &'static str {
+        match self {
+            Self::Add => "+",
+            Self::Subtract => "-",
+            Self::Sign => "SIGN",
+            Self::And => "AND",
+            Self::Either => "OR",
+            Self::Nev => "NEV",
+        }
     }
 }
 
-pub(crate) fn control_name(order: ControlOrder) -> &'static str {
-    match order {
-        ControlOrder::Dummy => "DUMMY",
-        ControlOrder::ClearOverflow => "VR",
-        ControlOrder::ToTest => "=TR",
-        ControlOrder::FromLink => "LINK",
-        ControlOrder::ToLink => "=LINK",
+impl Name for ControlOrder {
+    fn name(self) -> &'static str {
+        match self {
+            Self::Dummy => "DUMMY",
+            Self::ClearOverflow => "VR",
+            Self::ToTest => "=TR",
+            Self::FromLink => "LINK",
+            Self::ToLink => "=LINK",
+        }
     }
 }
 
-pub(crate) fn q_name(order: QOrder) -> &'static str {
-    match order {
-        QOrder::Advance => "M+I",
-        QOrder::Retreat => "M-I",
-        QOrder::NegateCount => "NC",
-        QOrder::CountDown => "DC",
-        QOrder::SetOne => "I=1",
-        QOrder::SetMinusOne => "I=-1",
-        QOrder::SetTwo => "I=2",
-        QOrder::SetMinusTwo => "I=-2",
-        QOrder::PushQ => "Q",
-        QOrder::PushC => "C",
-        QOrder::PushI => "I",
-        QOrder::PushM => "M",
-        QOrder::TakeQ => "=Q",
-        QOrder::TakeC => "=C",
-        QOrder::TakeI => "=I",
-        QOrder::TakeM => "=M",
-        QOrder::ResetC => "=RC",
-        QOrder::ResetI => "=RI",
-        QOrder::ResetM => "=RM",
+impl Name for QOrder {
+    fn name(self) -> &'static str {
+        match self {
+            Self::Advance => "M+I",
+            Self::Retreat => "M-I",
+            Self::NegateCount => "NC",
+            Self::CountDown => "DC",
+            Self::SetOne => "I=1",
+            Self::SetMinusOne => "I=-1",
+            Self::SetTwo => "I=2",
+            Self::SetMinusTwo => "I=-2",
+            Self::PushQ => "Q",
+            Self::PushC => "C",
+            Self::PushI => "I",
+            Self::PushM => "M",
+            Self::TakeQ => "=Q",
+            Self::TakeC => "=C",
+            Self::TakeI => "=I",
+            Self::TakeM => "=M",
+            Self::ResetC => "=RC",
+            Self::ResetI => "=RI",
+            Self::ResetM => "=RM",
+        }
     }
 }
 
-pub(crate) fn shift_by_count_name(order: Shift) -> &'static str {
-    match order {
-        Shift::Arithmetic => "SHAC",
-        Shift::Logical => "SHLC",
-        Shift::Cyclic => "SHCC",
+impl Name for TransferOrder {
+    fn name(self) -> &'static str {
+        match self {
+            Self::Read => "RD",
+            Self::ReadToEnd => "RDE",
+            Self::Write => "WR",
+            Self::WriteToEnd => "WRE",
+            Self::Seek => "SEEK",
+            Self::Busy => "BUSY",
+        }
     }
 }
 
-pub(crate) fn transfer_name(order: TransferOrder) -> &'static str {
-    match order {
-        TransferOrder::Read => "RD",
-        TransferOrder::ReadToEnd => "RDE",
-        TransferOrder::Write => "WR",
-        TransferOrder::WriteToEnd => "WRE",
-        TransferOrder::Seek => "SEEK",
-        TransferOrder::Busy => "BUSY",
+// A shift by the C part of a Q has this name with C after it.
+impl Name for Shift {
+    fn name(self) -> &'static str {
+        match self {
+            Self::Arithmetic => "SHA",
+            Self::Logical => "SHL",
+            Self::Cyclic => "SHC",
+        }
     }
 }
 
-pub(crate) fn shift_name(order: Shift) -> &'static str {
-    match order {
-        Shift::Arithmetic => "SHA",
-        Shift::Logical => "SHL",
-        Shift::Cyclic => "SHC",
+impl Name for Condition {
+    fn name(self) -> &'static str {
+        match self {
+            Self::Always => "J",
+            Self::ToSubroutine => "JS",
+            Self::IfZero => "J=Z",
+            Self::IfNotZero => "J#Z",
+            Self::IfNegative => "J<Z",
+            Self::IfNotNegative => "J>=Z",
+            Self::IfPositive => "J>Z",
+            Self::IfNotPositive => "J<=Z",
+            Self::IfNestEmpty => "JEN",
+            Self::IfNestNotEmpty => "JNEN",
+            Self::IfLinksEmpty => "JEJ",
+            Self::IfLinksNotEmpty => "JNEJ",
+            Self::IfTest => "JTR",
+            Self::IfNotTest => "JNTR",
+            Self::IfOverflow => "JV",
+            Self::IfNotOverflow => "JNV",
+        }
     }
 }
 
-pub(crate) fn condition_name(order: Condition) -> &'static str {
-    match order {
-        Condition::Always => "J",
-        Condition::ToSubroutine => "JS",
-        Condition::IfZero => "J=Z",
-        Condition::IfNotZero => "J#Z",
-        Condition::IfNegative => "J<Z",
-        Condition::IfNotNegative => "J>=Z",
-        Condition::IfPositive => "J>Z",
-        Condition::IfNotPositive => "J<=Z",
-        Condition::IfNestEmpty => "JEN",
-        Condition::IfNestNotEmpty => "JNEN",
-        Condition::IfLinksEmpty => "JEJ",
-        Condition::IfLinksNotEmpty => "JNEJ",
-        Condition::IfTest => "JTR",
-        Condition::IfNotTest => "JNTR",
-        Condition::IfOverflow => "JV",
-        Condition::IfNotOverflow => "JNV",
+impl Name for CountTest {
+    fn name(self) -> &'static str {
+        match self {
+            Self::IfZero => "JCZ",
+            Self::IfNotZero => "JCNZ",
+        }
     }
 }
 
-pub(crate) fn count_test_name(order: CountTest) -> &'static str {
-    match order {
-        CountTest::IfZero => "JCZ",
-        CountTest::IfNotZero => "JCNZ",
+impl Name for StoreOrder {
+    fn name(self) -> &'static str {
+        match self {
+            Self::Fetch => "E",
+            Self::FetchStep => "EQ",
+            Self::Put => "=E",
+            Self::PutStep => "=EQ",
+        }
     }
 }
 
-pub(crate) fn store_name(order: StoreOrder) -> &'static str {
-    match order {
-        StoreOrder::Fetch => "E",
-        StoreOrder::FetchStep => "EQ",
-        StoreOrder::Put => "=E",
-        StoreOrder::PutStep => "=EQ",
+impl Name for IndexedOrder {
+    fn name(self) -> &'static str {
+        match self {
+            Self::Fetch => "MM",
+            Self::Put => "=MM",
+            Self::FetchStep => "MMQ",
+            Self::PutStep => "=MMQ",
+            Self::FetchHalf => "MMH",
+            Self::PutHalf => "=MMH",
+        }
     }
 }
 
-pub(crate) fn indexed_name(order: IndexedOrder) -> &'static str {
-    match order {
-        IndexedOrder::Fetch => "MM",
-        IndexedOrder::Put => "=MM",
-        IndexedOrder::FetchStep => "MMQ",
-        IndexedOrder::PutStep => "=MMQ",
-        IndexedOrder::FetchHalf => "MMH",
-        IndexedOrder::PutHalf => "=MMH",
-    }
-}
-
-pub(crate) fn parts_name(order: Parts) -> &'static str {
-    match order {
-        Parts::M => "MTO",
-        Parts::I => "ITO",
-        Parts::Im => "IMTO",
-        Parts::C => "CTO",
-        Parts::Cm => "CMTO",
-        Parts::Ci => "CITO",
-        Parts::Q => "QTO",
+impl Name for Parts {
+    fn name(self) -> &'static str {
+        match self {
+            Self::M => "MTO",
+            Self::I => "ITO",
+            Self::Im => "IMTO",
+            Self::C => "CTO",
+            Self::Cm => "CMTO",
+            Self::Ci => "CITO",
+            Self::Q => "QTO",
+        }
     }
 }

@@ -1,95 +1,119 @@
 // One value: the bytes before the equals sign, and after it what they say.
-use crate::text::order_text;
+use crate::text::Text;
 use anyhow::anyhow;
 use order::code::{Order, Undecoded};
 use order::decode::decode;
 use order::table::Row;
-use std::alloc::{AllocError, Global};
+use std::fmt;
 use std::num::ParseIntError;
 
 // How many values there were, by what their bytes say and by whether it is what the file says.
-#[derive(Clone, Copy)]
+#[derive(Clone, Copy, Default)]
 pub struct Tally {
-    pub orders: u32,
-    pub unknown: u32,
-    pub operand: u32,
-    pub agree: u32,
-    pub differ: u32,
+    orders: u32,
+    unknown: u32,
+    operand: u32,
+    agree: u32,
+    differ: u32,
 }
 
 impl Tally {
-    pub const NONE: Tally = Tally {
-        orders: 0,
-        unknown: 0,
-        operand: 0,
-        agree: 0,
-        differ: 0,
-    };
+    fn count(&mut self, said: &Result<Order, Undecoded>, agrees: bool) {
+        match said {
+            Ok(_) => self.orders = self.orders.saturating_add(1),
+            Err(Undecoded::UnknownCommand) => self.unknown = self.unknown.saturating_add(1),
+            Err(Undecoded::Operand) => self.operand = self.operand.saturating_add(1),
+        }
+        if agrees {
+            self.agree = self.agree.saturating_add(1);
+        } else {
+            self.differ = self.differ.saturating_add(1);
+        }
+    }
 }
 
-pub(crate) fn compare(rt: &HostRuntime, line: &str, tally: &mut Tally) -> anyhow::Result<()> {
-    let Some((bytes, expected)) = line.split_once(" = ") else {
-        return Err(anyhow!("a line without an equals sign"));
-    };
-    let found = value(rt.alloc(), bytes, tally)?;
-    if found.as_str() == expected {
-        tally.agree = tally.agree.saturating_add(1);
-        return Ok(());
+impl fmt::Display for Tally {
+    fn fmt<W: fmt::Write>(&self, f: &mut fmt::Formatter<W>) -> fmt::Result {
+        let Tally {
+            orders,
+            unknown,
+            operand,
+            agree,
+            differ,
+        } = self;
+        let all = agree.saturating_add(*differ);
+        writeln!(
+            f,
+            "{orders} orders, {unknown} unknown commands, {operand} with q or k over 15"
+        )?;
+        write!(f, "{all} values, {agree} agree, {differ} differ")
     }
-    tally.differ = tally.differ.saturating_add(1);
-    println!(rt; "found {found} where the file has {line}")?;
-    Ok(())
 }
 
 // What the bytes say, and the row of their command.
-fn value(heap: Global, bytes: &str, tally: &mut Tally) -> anyhow::Result<String> {
-    let mut words = bytes.split_whitespace();
-    let command = byte(words.next())?;
-    let x = byte(words.next())?;
-    let y = byte(words.next())?;
-    let z = byte(words.next())?;
-    let said = said(heap, decode(command, x, y, z), tally)?;
-    Ok(with_row(heap, said.as_str(), Row::of(command))?)
+#[derive(Clone, Copy)]
+struct Value {
+    said: Result<Order, Undecoded>,
+    row: Row,
+}
+
+impl Value {
+    fn of(command: u8, x: u8, y: u8, z: u8) -> Value {
+        Value {
+            said: decode(command, x, y, z),
+            row: Row::of(command),
+        }
+    }
+}
+
+impl fmt::Display for Value {
+    fn fmt<W: fmt::Write>(&self, f: &mut fmt::Formatter<W>) -> fmt::Result {
+        match self.said {
+            Ok(order) => write!(f, "{}", Text(order))?,
+            Err(Undecoded::UnknownCommand) => write!(f, "unknown command")?,
+            Err(Undecoded::Operand) => write!(f, "q or k over 15")?,
+        }
+        let Row {
+            length,
+            nest_needed,
+            nest_left,
+            links_needed,
+            links_left,
+        } = self.row;
+        write!(
+            f,
+            "; length {length}, nest {nest_needed} to {nest_left}, links {links_needed} to {links_left}"
+        )
+    }
+}
+
+// The command and the bytes after it.
+fn bytes(text: &str) -> Result<[u8; 4], ParseIntError> {
+    let mut words = text.split_whitespace();
+    Ok([
+        byte(words.next())?,
+        byte(words.next())?,
+        byte(words.next())?,
+        byte(words.next())?,
+    ])
 }
 
 // A byte of two hexadecimal digits; 0 where none is given.
 fn byte(word: Option<&str>) -> Result<u8, ParseIntError> {
-    match word {
-        Some(digits) => u8::from_str_radix(digits, 16),
-        None => Ok(0),
-    }
+    word.map_or(Ok(0), |digits| u8::from_str_radix(digits, 16))
 }
 
-fn said(
-    heap: Global,
-    decoded: Result<Order, Undecoded>,
-    tally: &mut Tally,
-) -> Result<String, AllocError> {
-    match decoded {
-        Ok(order) => {
-            tally.orders = tally.orders.saturating_add(1);
-            order_text(heap, order)
-        }
-        Err(Undecoded::UnknownCommand) => {
-            tally.unknown = tally.unknown.saturating_add(1);
-            String::from_str(heap, "unknown command")
-        }
-        Err(Undecoded::Operand) => {
-            tally.operand = tally.operand.saturating_add(1);
-            String::from_str(heap, "q or k over 15")
-        }
+pub(crate) fn compare(rt: &HostRuntime, line: &str, tally: &mut Tally) -> anyhow::Result<()> {
+    let Some((before, expected)) = line.split_once(" = ") else {
+        return Err(anyhow!("a line without an equals sign"));
+    };
+    let [command, x, y, z] = bytes(before)?;
+    let value = Value::of(command, x, y, z);
+    let found = format!(in rt.alloc(); "{value}")?;
+    let agrees = found.as_str() == expected;
+    tally.count(&value.said, agrees);
+    if !agrees {
+        println!(rt; "found {found} where the file has {line}")?;
     }
-}
-
-fn with_row(heap: Global, said: &str, row: Row) -> Result<String, AllocError> {
-    let Row {
-        length,
-        nest_needed,
-        nest_left,
-        links_needed,
-        links_left,
-    } = row;
-    format!(in heap;
-        "{said}; length {length}, nest {nest_needed} to {nest_left}, links {links_needed} to {links_left}"
-    )
+    Ok(())
 }

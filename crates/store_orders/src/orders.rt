@@ -1,7 +1,6 @@
 // How an order that fetches or stores is carried out. The place is already that of the next order.
 ghost use Rattle.std.specs.Prelude.{◌≡◌, ◌<◌, length};
 ghost use Rattle.order.specs.Cells.{store_cells, indexed_cells};
-ghost use Rattle.registers.specs.Registers.{regs_of};
 ghost use Rattle.registers.specs.Enough.{Enough};
 ghost use Rattle.store_orders.specs.State.{state};
 ghost use Rattle.store_orders.specs.Addresses.{store_address, indexed_address};
@@ -10,15 +9,14 @@ ghost use Rattle.store_orders.specs.Effects.{on_store, on_indexed};
 use crate::addresses::{indexed_address, store_address};
 use crate::halves::{fetch_half, put_half};
 use crate::words::{fetch_word, put_word, step_q};
-use order::code::{IndexedOrder, StoreOrder};
+use order::code::{IndexedOrder, QNumber, StoreOrder};
 use registers::registers::Registers;
 
 // At e + M of q.
-pub fn on_store(order: StoreOrder, q: u8, e: u16, regs: &mut Registers, area: &mut [u64])
-    requires number { q < 16 }
-    requires cells { Enough (store_cells order) (regs_of regs.old) }
-    requires inside { store_address q e (regs_of regs.old) < length area.old }
-    ensures { state (regs_of regs.new) area.new ≡ on_store order q e (state (regs_of regs.old) area.old) }
+pub fn on_store(order: StoreOrder, q: QNumber, e: u16, regs: &mut Registers, area: &mut [u64])
+    requires cells { Enough (store_cells order) regs.old }
+    requires inside { store_address q e regs.old < length area.old }
+    ensures { state regs.new area.new ≡ on_store order q e (state regs.old area.old) }
 {
     let at = store_address(q, e, regs);
     match order {
@@ -36,11 +34,16 @@ pub fn on_store(order: StoreOrder, q: u8, e: u16, regs: &mut Registers, area: &m
 }
 
 // At M of k and M of q.
-pub fn on_indexed(order: IndexedOrder, k: u8, q: u8, regs: &mut Registers, area: &mut [u64])
-    requires numbers { (k < 16) × (q < 16) }
-    requires cells { Enough (indexed_cells order) (regs_of regs.old) }
-    requires inside { indexed_address order k q (regs_of regs.old) < length area.old }
-    ensures { state (regs_of regs.new) area.new ≡ on_indexed order k q (state (regs_of regs.old) area.old) }
+pub fn on_indexed(
+    order: IndexedOrder,
+    k: QNumber,
+    q: QNumber,
+    regs: &mut Registers,
+    area: &mut [u64],
+)
+    requires cells { Enough (indexed_cells order) regs.old }
+    requires inside { indexed_address order k q regs.old < length area.old }
+    ensures { state regs.new area.new ≡ on_indexed order k q (state regs.old area.old) }
 {
     let at = indexed_address(order, k, q, regs);
     let upper = regs.q_of(q).m % 2 == 0;

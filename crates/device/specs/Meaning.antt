@@ -6,8 +6,8 @@
 -- read_after, write_after, seek_after                    the meaning after that call
 use Rattle.std.specs.Prelude.{ℕ, ◌+◌, ◌%◌, ◌<◌, ◌≤◌, Bool, true, false, cond, not, ◌&&◌, List, [], ◌∷◌, ◌++◌, length, Ok, Err, Result, ◌==◌, nat_le, nat_lt, slice_index, slice_set}
 use Prim.Native.String.{String}
-use Rattle.device.specs.declared.refusal.Writing.{Writing}
-use Rattle.device.specs.declared.refusal.Writing.TheVariants.{Yes, WrongWay, NoRing}
+use Rattle.device.specs.declared.refusal.NotWriting.{NotWriting}
+use Rattle.device.specs.declared.refusal.NotWriting.TheVariants.{WrongWay, NoRing}
 
 -- a cell is a symbol 0 to 63, or 64 for a damaged frame; the head is the number of the next cell
 pub record Meaning : Type 0 where
@@ -16,7 +16,7 @@ pub record Meaning : Type 0 where
   pub capacity : ℕ
   pub reads : Bool
   pub seeks : Bool
-  pub writing : Writing
+  pub writing : Result (Unit {0}) NotWriting
 
 -- each of xs is below n
 abbrev pub Below : ℕ → List ℕ → Type 0
@@ -56,16 +56,15 @@ put cells h s = cond (nat_lt h (length cells)) (slice_set cells h s) (cells ++ (
 
 -- Writing is refused by the words of `writing`, then "full" where the head equals the capacity. Otherwise the cell at
 -- the head is replaced or added, modulo 64, and passed.
-abbrev pub writable : Writing → Bool
-writable Yes = true
-writable WrongWay = false
-writable NoRing = false
+abbrev pub writable : Result (Unit {0}) NotWriting → Bool
+writable (Ok u) = true
+writable (Err why) = false
 
 -- why a write was refused
-abbrev pub refused_write : Writing → String
-refused_write Yes = "full"
-refused_write WrongWay = "wrong way"
-refused_write NoRing = "no ring"
+abbrev pub refused_write : Result (Unit {0}) NotWriting → String
+refused_write (Ok u) = "full"
+refused_write (Err WrongWay) = "wrong way"
+refused_write (Err NoRing) = "no ring"
 
 -- whether a write is taken
 abbrev pub takes : Meaning → Bool

@@ -10,20 +10,24 @@ pub struct BufferNumber {
     ghost few: { number ≤ 15 },
 }
 
-impl BufferNumber {
-    // The buffer of that number, refused by number 2 where it is over 15.
-    pub fn new(number: u8) -> Result<BufferNumber, InputRefusal>
-        ensures { numbered (λ b. b.number) result ≡ buffer_answer number }
-    {
+// The buffer of that number, refused by number 2 where it is over 15.
+impl TryFrom<u8> for BufferNumber {
+    type Error = InputRefusal;
+
+    ghost try_from_gives = { λ number result. numbered (λ b. b.number) result ≡ buffer_answer number };
+
+    fn try_from(number: u8) -> Result<BufferNumber, InputRefusal> {
         if number > 15 {
             return Err(InputRefusal::BufferOver15);
         }
         Ok(BufferNumber { number })
     }
+}
 
-    pub fn number(&self) -> u8
-        ensures { (result ≡ self.now.number) × (result ≤ 15) }
-    {
-        self.number
+impl From<BufferNumber> for u8 {
+    ghost from_gives = { λ buffer number. (number ≡ buffer.number) × (number ≤ 15) };
+
+    fn from(buffer: BufferNumber) -> u8 {
+        buffer.number
     }
 }

@@ -5,7 +5,7 @@ ghost use Rattle.device.specs.Changing.{changed_sound};
 
 use super::code_table::CodeTable;
 use super::device::Device;
-use super::refusal::{Refusal, Writing};
+use super::refusal::{NotWriting, Refusal};
 
 #[derive(Drop)]
 pub struct CodeChanger<D> {
@@ -34,10 +34,8 @@ impl<D: Device> Device for CodeChanger<D> {
     ghost sound = { λ d. changed_sound d.table.shown d.table.symbols (D.Device.meaning d.below) (D.Device.sound d.below) };
 
     fn read(&mut self) -> Result<u8, Refusal> {
-        match self.below.read() {
-            Ok(symbol) => Ok(self.table.show(symbol)),
-            Err(refusal) => Err(refusal),
-        }
+        let symbol = self.below.read()?;
+        Ok(self.table.show(symbol))
     }
 
     fn write(&mut self, symbol: u8) -> Result<(), Refusal> {
@@ -53,7 +51,7 @@ impl<D: Device> Device for CodeChanger<D> {
         self.below.head()
     }
 
-    fn writing(&self) -> Writing {
+    fn writing(&self) -> Result<(), NotWriting> {
         self.below.writing()
     }
 }

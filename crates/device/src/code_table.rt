@@ -1,5 +1,5 @@
 // A code table: it holds the symbols 0 to 63 once each, checked once.
-ghost use Rattle.std.specs.Prelude.{◌≡◌, ℕ, ◌<◌, length, ◌≢◌, slice_index};
+ghost use Rattle.std.specs.Prelude.{◌≡◌, ℕ, ◌<◌, ◌==◌, length, ◌≢◌, position, slice_index};
 ghost use Rattle.device.specs.Layers.{occurs};
 ghost use Rattle.device.specs.Meaning.{Below};
 ghost use Rattle.device.specs.Words.{numbered, table_answer};
@@ -19,36 +19,49 @@ pub struct CodeTable {
     ghost inverse: { (s : ℕ) → s < 64 → slice_index shown (slice_index back s) ≡ s },
 }
 
-// Where a symbol stands in a table, if it stands there once.
-fn place_of(table: &[u8; 64], symbol: u8) -> Option<u8>
-    ensures { options.MatchOption result (occurs symbol table.now ≢ 1) (λ i. (i < 64) × (slice_index table.now i ≡ symbol) × (occurs symbol table.now ≡ 1)) }
+// The first place of a symbol in a table.
+fn first_of(table: &[u8; 64], symbol: usize) -> Option<usize>
+    ensures { result ≡ position (λ x. x == symbol) table.now }
 {
-    let mut place = 0;
-    let mut times = 0u8;
-    for i in 0..64u8 {
-        if table[usize::from(i)] == symbol {
-            place = i;
-            times += 1;
-        }
-    }
-    if times == 1 { Some(place) } else { None }
+    table.iter().position(|entry| usize::from(*entry) == symbol)
 }
 
-impl CodeTable {
-    // The table that shows symbol s as shown[s], refused by number 7 where it does not hold 0 to 63 once each.
-    pub fn new(shown: [u8; 64]) -> Result<CodeTable, InputRefusal>
-        ensures { numbered (λ t. t.shown) result ≡ table_answer shown }
-    {
+// Where a symbol stands in a table, if it stands there once.
+#[tactic(auto, using(crate::proofs::Tables::position_none))]
+fn place_of(table: &[u8; 64], symbol: usize) -> Option<u8>
+    ensures { options.MatchOption result (occurs symbol table.now ≢ 1) (λ i. (i < 64) × (slice_index table.now i ≡ symbol) × (occurs symbol table.now ≡ 1)) }
+{
+    let place = first_of(table, symbol)?;
+    let times = table
+        .iter()
+        .filter(|entry| usize::from(**entry) == symbol)
+        .count();
+    if times == 1 {
+        u8::try_from(place).ok()
+    } else {
+        None
+    }
+}
+
+// The table that shows symbol s as shown[s], refused by number 7 where it does not hold 0 to 63 once each.
+impl TryFrom<[u8; 64]> for CodeTable {
+    type Error = InputRefusal;
+
+    ghost try_from_gives = { λ shown result. numbered (λ t. t.shown) result ≡ table_answer shown };
+
+    fn try_from(shown: [u8; 64]) -> Result<CodeTable, InputRefusal> {
         let mut back = [0; 64];
-        for s in 0..64u8 {
-            let Some(place) = place_of(&shown, s) else {
+        for (symbol, place) in back.iter_mut().enumerate() {
+            let Some(found) = place_of(&shown, symbol) else {
                 return Err(InputRefusal::TableUnfit);
             };
-            back[usize::from(s)] = place;
+            *place = found;
         }
         Ok(CodeTable { shown, back })
     }
+}
 
+impl CodeTable {
     pub(crate) fn show(&self, symbol: u8) -> u8
         requires { symbol < 64 }
         ensures { result ≡ slice_index self.now.shown symbol }

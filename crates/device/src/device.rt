@@ -3,7 +3,7 @@ ghost use Rattle.std.specs.Prelude.{◌≡◌};
 ghost use Rattle.device.specs.Meaning.{Meaning, Sound, read_answer, read_after, write_answer, write_after, seek_answer, seek_after};
 ghost use Rattle.device.specs.Words.{said};
 
-use super::refusal::{Refusal, Writing};
+use super::refusal::{NotWriting, Refusal};
 
 // Each call answers as the meaning does, and leaves the meaning that a call of its kind leaves.
 pub trait Device {
@@ -25,7 +25,7 @@ pub trait Device {
         ensures { result ≡ (meaning self.now).head };
 
     // Whether it writes, and if not, why: the layers ask this.
-    fn writing(&self) -> Writing
+    fn writing(&self) -> Result<(), NotWriting>
         ensures { result ≡ (meaning self.now).writing };
 
     ghost sound: { (d : Self) → Sound (meaning d) };

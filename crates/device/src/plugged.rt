@@ -32,7 +32,7 @@ impl<D, B> Plugged<D, B> {
     fn is_here(&self, n: u8) -> bool
         ensures { result ≡ (n == self.now.buffer.number) }
     {
-        n == self.buffer.number()
+        n == u8::from(self.buffer)
     }
 
     pub fn device(&self) -> &D

@@ -1,5 +1,6 @@
 // Why a device, a bank, or a check of input refuses.
-ghost use Rattle.std.specs.Prelude.{◌≡◌, codes};
+ghost use Rattle.std.specs.Prelude.{◌≡◌, codes, Err};
+ghost use Rattle.device.specs.Meaning.{refused_write};
 ghost use Rattle.device.specs.Words.{number_of, words};
 
 use std::error::Error;
@@ -41,12 +42,22 @@ impl fmt::Display for Refusal {
 
 impl Error for Refusal {}
 
-// Whether a device writes, and if not, why.
+// Why a device does not write, whatever is in its cells.
 #[derive(Clone, Copy, PartialEq, Eq, Debug)]
-pub enum Writing {
-    Yes,
+pub enum NotWriting {
     WrongWay,
     NoRing,
+}
+
+impl From<NotWriting> for Refusal {
+    ghost from_gives = { λ why refusal. words refusal ≡ refused_write (Err why) };
+
+    fn from(why: NotWriting) -> Refusal {
+        match why {
+            NotWriting::WrongWay => Refusal::WrongWay,
+            NotWriting::NoRing => Refusal::NoRing,
+        }
+    }
 }
 
 // What a check refuses of its input.

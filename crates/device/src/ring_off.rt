@@ -4,7 +4,7 @@ ghost use Rattle.device.specs.Layers.{without_ring};
 ghost use Rattle.std.proofs.Common.{rules};
 
 use super::device::Device;
-use super::refusal::{Refusal, Writing};
+use super::refusal::{NotWriting, Refusal};
 
 #[derive(Drop)]
 pub struct RingOff<D> {
@@ -35,10 +35,7 @@ impl<D: Device> Device for RingOff<D> {
     }
 
     fn write(&mut self, _symbol: u8) -> Result<(), Refusal> {
-        match self.below.writing() {
-            Writing::WrongWay => Err(Refusal::WrongWay),
-            Writing::Yes | Writing::NoRing => Err(Refusal::NoRing),
-        }
+        self.writing().map_err(Refusal::from)
     }
 
     fn seek(&mut self, cell: u16) -> Result<(), Refusal> {
@@ -49,10 +46,7 @@ impl<D: Device> Device for RingOff<D> {
         self.below.head()
     }
 
-    fn writing(&self) -> Writing {
-        match self.below.writing() {
-            Writing::Yes => Writing::NoRing,
-            w => w,
-        }
+    fn writing(&self) -> Result<(), NotWriting> {
+        self.below.writing().and(Err(NotWriting::NoRing))
     }
 }

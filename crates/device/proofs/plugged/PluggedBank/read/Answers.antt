@@ -1,30 +1,11 @@
-use Rattle.std.proofs.Common.{◌≡◌, ◌≢◌, sym}
-use Rattle.std.proofs.lemmas.Bool.{eqb-true, eqb-false}
-use Rattle.device.specs.Meaning.{read_answer, read_after}
-use Rattle.device.specs.Banks.{answer_here, after_here, answer_other, after_other}
+use Rattle.device.specs.Meaning.{read_after}
+use Rattle.device.proofs.Plugging.{after_here, after_other}
 use Rattle.device.proofs.plugged.PluggedBank.read.Goals as goal
 
-pub returns-then-is_here : goal.returns-then-is_here
-returns-then-is_here g c =
+pub returns-then-is_here-clause-after : goal.returns-then-is_here-clause-after
+returns-then-is_here-clause-after g c =
     let p = c.args.self.now in
-    let b = g.B.Bank.devices p.below in
-    let n = p.buffer.number in
-    let m = g.D.Device.meaning p.device in
-    let w = g.met.B.Bank.whole p.below in
-    let same : c.args.n ≡ n = eqb-true _ _ (sym c.if-is_here.ensures) in
-    record {
-      answer = answer_here b n m _ same w p.buffer.few read_answer c.read.ensures.answer;
-      after = after_here b n m _ same w p.buffer.few read_after c.read.ensures.after;
-    }
+    after_here _ _ _ _ read_after c.if-is_here.ensures (g.met.B.Bank.whole p.below) p.buffer.few c.read.ensures.after
 
-pub returns-else-is_here : goal.returns-else-is_here
-returns-else-is_here g c =
-    let p = c.args.self.now in
-    let b = g.B.Bank.devices p.below in
-    let n = p.buffer.number in
-    let m = g.D.Device.meaning p.device in
-    let other : c.args.n ≢ n = eqb-false _ _ (sym c.if-is_here.ensures) in
-    record {
-      answer = answer_other b n m _ other read_answer c.read-else-is_here.ensures.answer;
-      after = after_other b n m _ other read_after c.read-else-is_here.ensures.after;
-    }
+pub returns-else-is_here-clause-after : goal.returns-else-is_here-clause-after
+returns-else-is_here-clause-after g c = after_other _ _ _ _ read_after c.if-is_here.ensures c.read-else-is_here.ensures.after

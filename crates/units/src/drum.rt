@@ -5,7 +5,7 @@ ghost use Rattle.units.specs.Units.{drum_of};
 ghost use Rattle.std.proofs.Common.{rules};
 
 use device::device::Device;
-use device::refusal::{Refusal, Writing};
+use device::refusal::{NotWriting, Refusal};
 
 #[derive(Drop)]
 pub struct Drum {
@@ -64,7 +64,7 @@ impl Device for Drum {
         self.head
     }
 
-    fn writing(&self) -> Writing {
-        Writing::Yes
+    fn writing(&self) -> Result<(), NotWriting> {
+        Ok(())
     }
 }

@@ -5,7 +5,7 @@ ghost use Rattle.units.specs.Units.{punch_of};
 ghost use Rattle.std.proofs.Common.{rules};
 
 use device::device::Device;
-use device::refusal::{Refusal, Writing};
+use device::refusal::{NotWriting, Refusal};
 use std::alloc::{AllocError, Global};
 
 #[derive(Drop)]
@@ -58,7 +58,7 @@ impl Device for Punch {
         self.cells.len() as u16
     }
 
-    fn writing(&self) -> Writing {
-        Writing::Yes
+    fn writing(&self) -> Result<(), NotWriting> {
+        Ok(())
     }
 }

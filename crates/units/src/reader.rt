@@ -7,7 +7,7 @@ ghost use Rattle.std.proofs.Common.{rules};
 
 use super::marks::cell_of;
 use device::device::Device;
-use device::refusal::{InputRefusal, Refusal, Writing};
+use device::refusal::{InputRefusal, NotWriting, Refusal};
 use std::alloc::{AllocError, Global};
 
 #[derive(Drop)]
@@ -77,7 +77,7 @@ impl Device for TapeReader {
         self.head
     }
 
-    fn writing(&self) -> Writing {
-        Writing::WrongWay
+    fn writing(&self) -> Result<(), NotWriting> {
+        Err(NotWriting::WrongWay)
     }
 }

@@ -1,14 +1,13 @@
 -- One more symbol of a word that is read from a bank.
-use Rattle.std.proofs.Common.{◌≡◌, ℕ, zero, suc, ◌+◌, ◌-◌, ◌*◌, ◌%◌, ◌^◌, ◌<◌, ◌≤◌, Bool, true, false, cond, List, [], ◌∷◌, length, get_or, set, IfSome, Some, None, Ok, Err, Option, Result, sym, refl, ap, ◌∙◌, subst, arith, pow-add}
+use Rattle.std.proofs.Common.{◌≡◌, ℕ, zero, suc, ◌+◌, ◌*◌, ◌%◌, ◌^◌, ◌<◌, ◌≤◌, Bool, true, false, cond, [], ◌∷◌, length, get_or, IfSome, Some, None, Ok, Err, Option, Result, refl, ap, ◌∙◌, subst, arith, pow-add}
 use Prim.Native.String.{String}
 use Rattle.std.proofs.lemmas.Nat.{mul-le}
 use Rattle.std.proofs.lemmas.Bool.Decides.{nat_tests}
 use Rattle.device.specs.Meaning.{Meaning, Sound, read_answer, read_after}
-use Rattle.device.specs.Bank.{Devices, Whole, answer_of, after_of, bank_answer, bank_after}
-use Rattle.transfer.specs.Symbols.{Stop, Run, gather, go_on, behind, ending, packed}
-use Rattle.device.specs.Bank.{standing}
+use Rattle.device.specs.Bank.{Devices, Whole, answer_of, after_of, bank_answer}
+use Rattle.transfer.specs.Symbols.{Run, gather, go_on, behind, ending, packed}
 use Rattle.transfer.specs.Symbols.Stop.{all, message_end, refused}
-use Rattle.device.proofs.Standing.{standing_after, Beside, beside_more, beside_all}
+use Rattle.transfer.proofs.Movement.{count}
 
 -- a symbol that is read is below 64
 pub read_below : (m : Meaning) → Sound m → (s : ℕ) → Ok s ≡ read_answer m → s < 64
@@ -18,16 +17,8 @@ pub symbol_below : (b : Devices) → Whole b → (n s : ℕ) → Ok s ≡ bank_a
 symbol_below b w n s = at (get_or b n None) (w.each_sound n)
   where
     at : (o : Option Meaning) → IfSome o Sound → Ok s ≡ answer_of read_answer o → s < 64
-    at None h e = let z : ◌≡◌ {A = ℕ} 0 1 = cc in omega arith
+    at None h e = cc
     at (Some m) h e = read_below m h s e
-
--- k symbols are still to come, the word so far is w, and what is left gives the whole run
-pub record Going (whole rest : Run) (k w : ℕ) : Type 0 where
-  pub word : w + packed k rest.symbols ≡ packed 8 whole.symbols
-  pub moved : 8 + length rest.symbols ≡ k + length whole.symbols
-  pub stop : rest.stop ≡ whole.stop
-  pub device : rest.device ≡ whole.device
-  pub room : w + 2 ^ (6 * k) ≤ 2 ^ 48
 
 pub weight : (j s : ℕ) → s < 64 → s * 2 ^ (6 * j) + 2 ^ (6 * j) ≤ 2 ^ (6 * suc j)
 weight j s h =
@@ -36,84 +27,67 @@ weight j s h =
     let top : s * 2 ^ (6 * j) ≤ 63 * 2 ^ (6 * j) = mul-le s (2 ^ (6 * j)) 63 (2 ^ (6 * j)) (omega arith) (omega arith) in
     rw six (omega (arith, split, top))
 
-packed_more : (k j s : ℕ) (ss : List ℕ) → k ≡ suc j → packed k (s ∷ ss) ≡ s * 2 ^ (6 * j) + packed j ss
-unfolding packed
-packed_more k j s ss ek = rw ek
+-- k symbols are still to come, and the word so far is w
+pub record Going (whole rest : Run) (k w : ℕ) : Type 0 where
+  pub word : w + packed k rest.symbols ≡ packed 8 whole.symbols
+  pub room : w + 2 ^ (6 * k) ≤ 2 ^ 48
 
-pub packed_none : (k : ℕ) → packed k [] ≡ 0
+packed_none : (k : ℕ) → packed k [] ≡ 0
 unfolding packed
 packed_none zero = refl
 packed_none (suc k) = refl
 
--- one symbol of k, as the device gave it
-step : (ends : Bool) (d : Option Meaning) (k j : ℕ) (r : Result ℕ String) → k ≡ suc j → r ≡ answer_of read_answer d →
-    gather ends k d ≡ go_on ends r (after_of read_after d) (gather ends j (after_of read_after d))
-unfolding gather
-step ends d k j r ek answer = rw (ek, ← answer) refl
+-- one symbol more of k
+module _ (ends : Bool) (d after : Option Meaning) (ed : after ≡ after_of read_after d) (whole : Run) (k j w : ℕ) (ek : k ≡ suc j) (g : Going whole (gather ends k d) k w) where
+  first : {r : Result ℕ String} → r ≡ answer_of read_answer d → gather ends k d ≡ go_on ends r after (gather ends j after)
+  unfolding gather
+  first e = rw (ek, ed, ← e) refl
 
-module _ (ends : Bool) (b : Devices) (n : ℕ) (whole : Run) where
-  -- what a run comes to that ends with w
-  pub record Ended (w moved : ℕ) (why : Stop) (b₀ b' : Devices) : Type 0 where
-    pub word : w ≡ packed 8 whole.symbols
-    pub moved_all : moved ≡ length whole.symbols
-    pub stop : why ≡ whole.stop
-    pub bank : b' ≡ set b₀ n whole.device
-
-  -- the word after one more symbol, with or without an end
-  module _ (k j w s : ℕ) (ek : k ≡ suc j) (answer : Ok s ≡ bank_answer read_answer b n) (small : s < 64) (g : Going whole (gather ends k (standing b n)) k w) where
-    pub fits : w + s * 2 ^ (6 * j) + 2 ^ (6 * j) ≤ 2 ^ 48
+  module _ (s : ℕ) (answer : Ok s ≡ answer_of read_answer d) (small : s < 64) where
+    -- the code shifts in 64 bits, and nothing is lost
+    pub fits : w + s * 2 ^ (6 * j) % 2 ^ 64 + 2 ^ (6 * j) ≤ 2 ^ 48
     fits = omega (arith, weight j s small, ap (λ i. 2 ^ (6 * i)) ek, g.room)
 
-    pub more : {b' : Devices} → b' ≡ bank_after read_after b n → ending ends s ≡ false → Going whole (gather ends j (standing b' n)) j (w + s * 2 ^ (6 * j))
-    more {b'} after on =
-        let r = gather ends j (after_of read_after (standing b n)) in
-        let e : gather ends k (standing b n) ≡ behind s r = step ends (standing b n) k j (Ok s) ek answer ∙ ap (λ t. cond t (record { symbols = s ∷ []; stop = message_end; device = after_of read_after (standing b n) }) (behind s r)) on in
-        let now : Going whole (behind s r) k w = subst (λ x. Going whole x k w) e g in
-        subst (λ d. Going whole (gather ends j d) j (w + s * 2 ^ (6 * j))) (sym (standing_after read_after b n after)) (record {
-          word = omega (arith, packed_more k j s r.symbols ek, now.word);
-          moved = omega (arith, now.moved);
-          stop = now.stop;
-          device = now.device;
-          room = fits;
-        })
+    shifted : s * 2 ^ (6 * j) % 2 ^ 64 ≡ s * 2 ^ (6 * j)
+    shifted = omega (arith, weight j s small, ap (λ i. 2 ^ (6 * i)) ek, g.room)
 
-    pub ended : {b₀ b' : Devices} → b' ≡ bank_after read_after b n → Beside n b₀ b → ending ends s ≡ true → Ended (w + s * 2 ^ (6 * j)) (8 - j) message_end b₀ b'
-    ended {b₀} {b'} after others off =
-        let d = after_of read_after (standing b n) in
-        let last : Run = record { symbols = s ∷ []; stop = message_end; device = d } in
-        let e : gather ends k (standing b n) ≡ last = step ends (standing b n) k j (Ok s) ek answer ∙ ap (λ t. cond t last (behind s (gather ends j d))) off in
-        let now : Going whole last k w = subst (λ x. Going whole x k w) e g in
-        record {
-          word = omega (arith, packed_more k j s [] ek, packed_none j, now.word);
-          moved_all = omega (arith, now.moved);
-          stop = now.stop;
-          bank = beside_all n b₀ b' whole.device (beside_more read_after n b₀ b after others) (standing_after read_after b n after ∙ now.device);
-        }
+    -- by whether the symbol ends the movement
+    abbrev run : (t : Bool) → Run
+    run t = cond t (record { symbols = s ∷ []; stop = message_end; device = after }) (behind s (gather ends j after))
 
-  pub stopped : (k j w : ℕ) (e : String) {b₀ b' : Devices} → k ≡ suc j → Err e ≡ bank_answer read_answer b n → b' ≡ bank_after read_after b n → Beside n b₀ b →
-      Going whole (gather ends k (standing b n)) k w → Ended w (7 - j) (refused e) b₀ b'
-  stopped k j w e {b₀} {b'} ek answer after others g =
-      let d = after_of read_after (standing b n) in
-      let end : Run = record { symbols = []; stop = refused e; device = d } in
-      let now : Going whole end k w = subst (λ r. Going whole r k w) (step ends (standing b n) k j (Err e) ek answer) g in
-      record {
-        word = omega (arith, packed_none k, now.word);
-        moved_all = omega (arith, now.moved);
-        stop = now.stop;
-        bank = beside_all n b₀ b' whole.device (beside_more read_after n b₀ b after others) (standing_after read_after b n after ∙ now.device);
-      }
+    by_end : {t : Bool} → ending ends s ≡ t → gather ends k d ≡ run t
+    by_end e = first answer ∙ ap run e
 
-  pub finished : (k w : ℕ) {b₀ : Devices} → k ≡ 0 → Beside n b₀ b → Going whole (gather ends k (standing b n)) k w → Ended w 8 all b₀ b
-  unfolding gather
-  finished k w {b₀} ek others g =
-      let now : Going whole (gather ends 0 (standing b n)) 0 w = subst (λ i. Going whole (gather ends i (standing b n)) i w) ek g in
-      record {
-        word = omega (arith, packed_none 0, now.word);
-        moved_all = omega (arith, now.moved);
-        stop = now.stop;
-        bank = beside_all n b₀ b whole.device others now.device;
-      }
+    word_by : (x : Run) → gather ends k d ≡ x → w + packed (suc j) x.symbols ≡ packed 8 whole.symbols
+    word_by x e = subst (λ (p : ℕ × Run). w + packed p.0 p.1.symbols ≡ packed 8 whole.symbols) (λ i. (ek i, e i)) g.word
 
--- the code shifts in 64 bits, and nothing is lost
-pub shifted : (w s j : ℕ) → w + s * 2 ^ (6 * j) + 2 ^ (6 * j) ≤ 2 ^ 48 → s * 2 ^ (6 * j) % 2 ^ 64 ≡ s * 2 ^ (6 * j)
-shifted w s j h = omega arith
+    pub goes_on : ending ends s ≡ false → Going whole (gather ends j after) j (w + s * 2 ^ (6 * j) % 2 ^ 64)
+    unfolding packed
+    goes_on e = record { word = omega (arith, shifted, word_by (run false) (by_end e)); room = fits }
+
+    pub one_more : ending ends s ≡ false → count (gather ends k d) ≡ record { moved = 1 + length (gather ends j after).symbols; stop = (gather ends j after).stop; device = (gather ends j after).device }
+    one_more e = ap count (by_end e) ∙ ap (λ i. record { moved = i; stop = (gather ends j after).stop; device = (gather ends j after).device }) (let e : suc (length (gather ends j after).symbols) ≡ 1 + length (gather ends j after).symbols = omega arith in e)
+
+    pub ends_here : ending ends s ≡ true → w + s * 2 ^ (6 * j) % 2 ^ 64 ≡ packed 8 whole.symbols
+    unfolding packed
+    ends_here e = omega (arith, shifted, word_by (run true) (by_end e), packed_none j)
+
+    pub one_last : ending ends s ≡ true → count (gather ends k d) ≡ record { moved = 1; stop = message_end; device = after }
+    one_last e = ap count (by_end e)
+
+  -- or a refusal
+  module _ (e : String) (answer : Err e ≡ answer_of read_answer d) where
+    pub none_more : count (gather ends k d) ≡ record { moved = 0; stop = refused e; device = after }
+    none_more = ap count (first answer)
+
+    pub ended : w ≡ packed 8 whole.symbols
+    ended = let last = subst (λ r. Going whole r k w) (first answer) g in omega (arith, last.word, packed_none k)
+
+-- or the word is full
+pub full : (ends : Bool) (d : Option Meaning) (whole : Run) (k w : ℕ) → k ≡ 0 → Going whole (gather ends k d) k w → w ≡ packed 8 whole.symbols
+unfolding packed
+full ends d whole k w e g = let none = ap (λ i. packed i (gather ends k d).symbols) e in omega (arith, g.word)
+
+pub nothing_left : (ends : Bool) (d : Option Meaning) (k : ℕ) → k ≡ 0 → count (gather ends k d) ≡ record { moved = 0; stop = all; device = d }
+unfolding gather
+nothing_left ends d k e = rw e refl

@@ -1,5 +1,7 @@
+pub mod Movement
 pub mod Gathering
 pub mod Words
+pub mod Slices
 pub mod Sending
 pub mod Effects
 pub mod Confined

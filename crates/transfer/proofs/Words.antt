@@ -1,16 +1,23 @@
 -- One word more of a transfer: a run of symbols by eights.
-use Rattle.std.proofs.Common.{◌≡◌, ℕ, zero, suc, ◌+◌, ◌-◌, ◌*◌, ◌^◌, ◌≤◌, Bool, true, false, cond, List, [], ◌∷◌, ◌++◌, length, get_or, set, None, Ok, Err, Option, Result, sym, refl, ap, ◌∙◌, subst, ap₂, suc-add, zero-add, arith}
+use Rattle.std.proofs.Common.{◌≡◌, ℕ, zero, suc, ◌+◌, ◌*◌, ◌^◌, ◌≤◌, Bool, true, false, cond, List, [], ◌∷◌, ◌++◌, length, get_or, set, Some, None, Ok, Err, Option, Result, sym, refl, ap, ◌∙◌, ap₂, suc-add, zero-add, arith}
 use Prim.Native.String.{String}
 use Rattle.std.proofs.lemmas.List.{length-append, drop_at, drop_all, set-get_or}
 use Rattle.device.specs.Meaning.{Meaning, read_answer, read_after}
 use Rattle.device.specs.Bank.{answer_of, after_of}
-use Rattle.transfer.specs.Symbols.{Stop, Run, gather, go_on, behind, ending, packed, filled, stored}
+use Rattle.transfer.proofs.Movement.{count}
+use Rattle.transfer.specs.Symbols.{Stop, Run, gather, go_on, behind, ending, packed, filled, stored, stop_of}
 use Rattle.transfer.specs.Symbols.Stop.{all, message_end, refused}
+use Rattle.transfer.specs.declared.part.Stop.{Stop as Stopped}
+use Rattle.transfer.specs.declared.part.Stop.TheVariants.{EndMessage, Refused}
 
 abbrev pub is_all : Stop → Bool
 is_all all = true
 is_all message_end = false
 is_all (refused e) = false
+
+pub stops_early : (s : Stopped) → is_all (stop_of (Some s)) ≡ false
+stops_early EndMessage = refl
+stops_early (Refused e) = refl
 
 -- a run, and another after it unless it was stopped
 abbrev pub joined : Run → Run → Run
@@ -89,63 +96,50 @@ module _ (n a : ℕ) (area : List ℕ) where
   word_alone [] h = sym (set-get_or area a 0)
   word_alone (x ∷ xs) h = ap (λ (t : List ℕ). stored n (a + 1) t (set area a (packed 8 (x ∷ xs)))) (drop_all 8 (x ∷ xs) h) ∙ stored_none n (a + 1) _
 
--- n words were to come from `first` on; m of them, from a on, are left
-pub record SoFar (whole rest : Run) (n first : ℕ) (area₀ : List ℕ) (m a : ℕ) (area : List ℕ) (moved : ℕ) : Type 0 where
-  pub words : stored n first whole.symbols area₀ ≡ stored m a rest.symbols area
-  pub count : length whole.symbols ≡ moved + length rest.symbols
-  pub stop : whole.stop ≡ rest.stop
-  pub device : whole.device ≡ rest.device
+-- one word more of m
+module _ (ends : Bool) (d after : Option Meaning) (ed : after ≡ (gather ends 8 d).device) (m m' : ℕ) (left : m ≡ suc m') where
+  abbrev this : Run
+  this = gather ends 8 d
 
--- what it comes to when it ends
-pub record Came (whole : Run) (n first : ℕ) (area₀ area : List ℕ) (moved : ℕ) (end : Stop) (d : Option Meaning) : Type 0 where
-  pub words : area ≡ stored n first whole.symbols area₀
-  pub count : moved ≡ length whole.symbols
-  pub stop : end ≡ whole.stop
-  pub device : d ≡ whole.device
+  abbrev rest : Run
+  rest = gather ends (8 * m') after
 
-pub started : (ends : Bool) (last first a : ℕ) (area : List ℕ) (d : Option Meaning) → a ≡ first →
-    SoFar (gather ends (8 * (last + 1 - first)) d) (gather ends (8 * (last + 1 - a)) d) (last + 1 - first) first area (last + 1 - a) a area 0
-started ends last first a area d e =
-    subst (λ i. SoFar (gather ends (8 * (last + 1 - first)) d) (gather ends (8 * (last + 1 - i)) d) (last + 1 - first) first area (last + 1 - i) i area 0) (sym e)
-    (record { words = refl; count = omega arith; stop = refl; device = refl })
+  split : (t : Bool) → is_all this.stop ≡ t → gather ends (8 * m) d ≡ cond t (record { symbols = this.symbols ++ rest.symbols; stop = rest.stop; device = rest.device }) this
+  split t e =
+      let eights : 8 * m ≡ 8 + 8 * m' = omega arith in
+      ap (λ i. gather ends i d) eights ∙ gather_add ends 8 (8 * m') d
+      ∙ ap (λ y. joined this (gather ends (8 * m') y)) (sym ed)
+      ∙ ap (λ u. cond u (record { symbols = this.symbols ++ rest.symbols; stop = rest.stop; device = rest.device }) this) e
 
-module _ (ends : Bool) (whole : Run) (n first : ℕ) (area₀ : List ℕ) (m m' a : ℕ) (area : List ℕ) (moved : ℕ) (d : Option Meaning)
-    (left : m ≡ suc m') (g : SoFar whole (gather ends (8 * m) d) n first area₀ m a area moved) where
-  split : gather ends (8 * m) d ≡ joined (gather ends 8 d) (gather ends (8 * m') (gather ends 8 d).device)
-  split = let e : 8 * m ≡ 8 + 8 * m' = omega arith in rw e (gather_add ends 8 (8 * m') d)
+  module _ (area : List ℕ) (a cell : ℕ) (ec : cell ≡ filled (get_or area a 0) this.symbols) where
+    -- a word that is full
+    module _ (full : all ≡ this.stop) where
+      pub words_more : stored m a (gather ends (8 * m) d).symbols area ≡ stored m' (a + 1) rest.symbols (set area a cell)
+      words_more =
+          ap₂ (λ (i : ℕ) (r : Run). stored i a r.symbols area) left (split true (ap is_all (sym full)))
+          ∙ word_and m' a area this.symbols rest.symbols ((counted ends 8 d).full (ap is_all (sym full)))
+          ∙ ap (λ w. stored m' (a + 1) rest.symbols (set area a w)) (sym ec)
 
-  module _ (area' : List ℕ) (moved' : ℕ) (d' : Option Meaning) (ea : area' ≡ set area a (filled (get_or area a 0) (gather ends 8 d).symbols))
-      (em : moved' ≡ moved + length (gather ends 8 d).symbols) (ed : d' ≡ (gather ends 8 d).device) where
-    pub word_more : (gather ends 8 d).stop ≡ all → SoFar whole (gather ends (8 * m') d') n first area₀ m' (a + 1) area' moved'
-    word_more e =
-        let r = gather ends 8 d in
-        let x = gather ends (8 * m') r.device in
-        let both : gather ends (8 * m) d ≡ record { symbols = r.symbols ++ x.symbols; stop = x.stop; device = x.device } = split ∙ ap (λ t. cond (is_all t) (record { symbols = r.symbols ++ x.symbols; stop = x.stop; device = x.device }) r) e in
-        let now = subst (λ t. SoFar whole t n first area₀ m a area moved) both g in
-        let eight : length r.symbols ≡ 8 = (counted ends 8 d).full (ap is_all e) in
-        subst (λ t. SoFar whole (gather ends (8 * m') t) n first area₀ m' (a + 1) area' moved') (sym ed) (record {
-          words = now.words ∙ ap (λ i. stored i a (r.symbols ++ x.symbols) area) left ∙ word_and m' a area r.symbols x.symbols eight ∙ ap (stored m' (a + 1) x.symbols) (sym ea);
-          count = omega (arith, now.count, length-append r.symbols x.symbols);
-          stop = now.stop;
-          device = now.device;
-        })
+      pub count_more : count (gather ends (8 * m) d) ≡ record { moved = length this.symbols + length rest.symbols; stop = rest.stop; device = rest.device }
+      count_more =
+          ap count (split true (ap is_all (sym full)))
+          ∙ ap (λ i. record { moved = i; stop = rest.stop; device = rest.device }) (length-append this.symbols rest.symbols)
 
-    pub word_last : is_all (gather ends 8 d).stop ≡ false → Came whole n first area₀ area' moved' (gather ends 8 d).stop d'
-    word_last e =
-        let r = gather ends 8 d in
-        let x = gather ends (8 * m') r.device in
-        let one : gather ends (8 * m) d ≡ r = split ∙ ap (λ t. cond t (record { symbols = r.symbols ++ x.symbols; stop = x.stop; device = x.device }) r) e in
-        let now = subst (λ t. SoFar whole t n first area₀ m a area moved) one g in
-        record {
-          words = ea ∙ sym (now.words ∙ ap (λ i. stored i a r.symbols area) left ∙ word_alone m' a area r.symbols (counted ends 8 d).most);
-          count = em ∙ sym now.count;
-          stop = sym now.stop;
-          device = ed ∙ sym now.device;
-        }
+    -- or the last one
+    module _ (stop : Stopped) (stopped : stop_of (Some stop) ≡ this.stop) where
+      ended : is_all this.stop ≡ false
+      ended = ap is_all (sym stopped) ∙ stops_early stop
 
-pub all_came : (ends : Bool) (whole : Run) (n first : ℕ) (area₀ : List ℕ) (m a : ℕ) (area : List ℕ) (moved : ℕ) (d : Option Meaning) → m ≡ 0 →
-    SoFar whole (gather ends (8 * m) d) n first area₀ m a area moved → Came whole n first area₀ area moved all d
-unfolding gather stored
-all_came ends whole n first area₀ m a area moved d e g =
-    let now = subst (λ i. SoFar whole (gather ends (8 * i) d) n first area₀ i a area moved) e g in
-    record { words = sym now.words; count = omega (arith, now.count); stop = sym now.stop; device = sym now.device }
+      pub words_last : stored m a (gather ends (8 * m) d).symbols area ≡ set area a cell
+      words_last =
+          ap₂ (λ (i : ℕ) (r : Run). stored i a r.symbols area) left (split false ended)
+          ∙ word_alone m' a area this.symbols (counted ends 8 d).most
+          ∙ ap (set area a) (sym ec)
+
+      pub count_last : count (gather ends (8 * m) d) ≡ count this
+      count_last = ap count (split false ended)
+
+-- no word is left
+pub nothing_left : (ends : Bool) (d : Option Meaning) (m a : ℕ) (area : List ℕ) → m ≡ 0 → stored m a (gather ends (8 * m) d).symbols area ≡ area
+unfolding stored
+nothing_left ends d m a area e = rw e refl

@@ -2,10 +2,10 @@
 use Rattle.std.specs.Prelude.{ℕ, zero, suc, ◌+◌, ◌*◌, ◌/◌, ◌%◌, ◌^◌, Bool, cond, ◌&&◌, List, [], ◌∷◌, ◌++◌, drop, Some, None, Ok, Err, Option, Result, ◌==◌, slice_index, slice_set}
 use Prim.Native.String.{String}
 use Rattle.device.specs.Meaning.{Meaning, read_answer, read_after, write_answer, write_after}
-use Rattle.device.specs.Bank.{answer_of, after_of}
+use Rattle.device.specs.Bank.{Devices, standing, answer_of, after_of}
 use Rattle.device.specs.Words.{words}
 use Rattle.transfer.specs.declared.part.Stop.{Stop as Stopped}
-use Rattle.transfer.specs.declared.part.Stop.TheVariants.{Full, EndMessage, Refused}
+use Rattle.transfer.specs.declared.part.Stop.TheVariants.{EndMessage, Refused}
 
 -- why a movement of symbols ended: all of them were moved, End Message was, or the device refused
 pub data Stop : Type 0 where
@@ -14,10 +14,14 @@ pub data Stop : Type 0 where
   refused : (why : String) → Stop
 
 -- why the code says that it ended, in the words of the refusal
-abbrev pub stop_of : Stopped → Stop
-stop_of Full = all
-stop_of EndMessage = message_end
-stop_of (Refused e) = refused (words e)
+abbrev pub stop_of : Option Stopped → Stop
+stop_of None = all
+stop_of (Some EndMessage) = message_end
+stop_of (Some (Refused e)) = refused (words e)
+
+-- a bank after f was done to what stands on one of its buffers
+abbrev pub on_buffer : (Option Meaning → Option Meaning) → Devices → ℕ → Devices
+on_buffer f b n = slice_set b n (f (standing b n))
 
 -- whether a symbol ends the movement: it does so where End Message is heeded
 abbrev pub ending : Bool → ℕ → Bool

@@ -1,16 +1,16 @@
 // Words from a buffer of any bank.
-ghost use Rattle.std.specs.Prelude.{◌≡◌, ◌+◌, ◌-◌, ◌*◌, ◌<◌, length, slice_set};
-ghost use Rattle.transfer.specs.Symbols.{gather, packed, filled, stored, stop_of, why};
-ghost use Rattle.device.specs.Bank.{standing};
+ghost use Rattle.std.specs.Prelude.{◌≡◌, ◌*◌, ◌^◌, ◌≤◌, length};
 ghost use Rattle.std.specs.Option.{option_map};
+ghost use Rattle.device.specs.Bank.{standing};
 ghost use Rattle.device.specs.Words.{words};
+ghost use Rattle.transfer.specs.Symbols.{gather, packed, filled, stored, stop_of, why, on_buffer};
 
 use crate::moves::Moved;
 use crate::part::{Part, Stop, is_end};
 use device::bank::Bank;
 
 // A word that was read: its symbols, highest first, filled up with zeros.
-#[derive(Clone, Copy)]
+#[derive(Clone, Copy, PartialEq, Eq, Debug)]
 pub(crate) struct Gathered {
     pub word: u64,
     pub part: Part,
@@ -21,7 +21,7 @@ fn read_word<B: Bank>(bank: &mut B, n: u8, ends: bool) -> Gathered
     ensures word { result.word ≡ packed 8 (gather ends 8 (standing (B.devices bank.old) n)).symbols }
     ensures moved { result.part.moved ≡ length (gather ends 8 (standing (B.devices bank.old) n)).symbols }
     ensures stop { stop_of result.part.stop ≡ (gather ends 8 (standing (B.devices bank.old) n)).stop }
-    ensures after { B.devices bank.new ≡ slice_set (B.devices bank.old) n (gather ends 8 (standing (B.devices bank.old) n)).device }
+    ensures after { B.devices bank.new ≡ on_buffer (λ d. (gather ends 8 d).device) (B.devices bank.old) n }
 {
     let mut word = 0;
     for k in (0..8u8).rev() {
@@ -33,7 +33,7 @@ fn read_word<B: Bank>(bank: &mut B, n: u8, ends: bool) -> Gathered
                         word,
                         part: Part {
                             moved: 8 - k,
-                            stop: Stop::EndMessage,
+                            stop: Some(Stop::EndMessage),
                         },
                     };
                 }
@@ -42,7 +42,7 @@ fn read_word<B: Bank>(bank: &mut B, n: u8, ends: bool) -> Gathered
                 word,
                 part: Part {
                     moved: 7 - k,
-                    stop: Stop::Refused(refusal),
+                    stop: Some(Stop::Refused(refusal)),
                 },
             },
         }
@@ -51,7 +51,7 @@ fn read_word<B: Bank>(bank: &mut B, n: u8, ends: bool) -> Gathered
         word,
         part: Part {
             moved: 8,
-            stop: Stop::Full,
+            stop: None,
         },
     }
 }
@@ -61,7 +61,7 @@ fn read_cell<B: Bank>(bank: &mut B, n: u8, ends: bool, cell: &mut u64) -> Part
     ensures cell { cell.new ≡ filled cell.old (gather ends 8 (standing (B.devices bank.old) n)).symbols }
     ensures moved { result.moved ≡ length (gather ends 8 (standing (B.devices bank.old) n)).symbols }
     ensures stop { stop_of result.stop ≡ (gather ends 8 (standing (B.devices bank.old) n)).stop }
-    ensures after { B.devices bank.new ≡ slice_set (B.devices bank.old) n (gather ends 8 (standing (B.devices bank.old) n)).device }
+    ensures after { B.devices bank.new ≡ on_buffer (λ d. (gather ends 8 d).device) (B.devices bank.old) n }
 {
     let got = read_word(bank, n, ends);
     if got.part.moved > 0 {
@@ -70,35 +70,23 @@ fn read_cell<B: Bank>(bank: &mut B, n: u8, ends: bool, cell: &mut u64) -> Part
     got.part
 }
 
-// Reads the words from the first to the last address.
-pub(crate) fn read_words<B: Bank>(
-    bank: &mut B,
-    n: u8,
-    ends: bool,
-    area: &mut [u64],
-    first: u16,
-    last: u16,
-) -> Moved
-    requires { last < length area.old }
-    ensures area { area.new ≡ stored (last + 1 - first) first (gather ends (8 * (last + 1 - first)) (standing (B.devices bank.old) n)).symbols area.old }
-    ensures moved { result.symbols ≡ length (gather ends (8 * (last + 1 - first)) (standing (B.devices bank.old) n)).symbols }
-    ensures refused { option_map words result.refusal ≡ why (gather ends (8 * (last + 1 - first)) (standing (B.devices bank.old) n)).stop }
-    ensures after { B.devices bank.new ≡ slice_set (B.devices bank.old) n (gather ends (8 * (last + 1 - first)) (standing (B.devices bank.old) n)).device }
+// Reads these words of an area.
+pub(crate) fn read_words<B: Bank>(bank: &mut B, n: u8, ends: bool, area: &mut [u64]) -> Moved
+    requires { length area.old ≤ 2 ^ 16 }
+    ensures area { area.new ≡ stored (length area.old) 0 (gather ends (8 * length area.old) (standing (B.devices bank.old) n)).symbols area.old }
+    ensures moved { result.symbols ≡ length (gather ends (8 * length area.old) (standing (B.devices bank.old) n)).symbols }
+    ensures refused { option_map words result.refusal ≡ why (gather ends (8 * length area.old) (standing (B.devices bank.old) n)).stop }
+    ensures after { B.devices bank.new ≡ on_buffer (λ d. (gather ends (8 * length area.old) d).device) (B.devices bank.old) n }
 {
     let mut symbols = 0;
-    for a in usize::from(first)..usize::from(last) + 1 {
-        let part = read_cell(bank, n, ends, &mut area[a]);
+    for cell in area.iter_mut() {
+        let part = read_cell(bank, n, ends, cell);
         symbols += u32::from(part.moved);
-        match part.stop {
-            Stop::Full => {}
-            Stop::EndMessage => return Moved {
+        if let Some(stop) = part.stop {
+            return Moved {
                 symbols,
-                refusal: None,
-            },
-            Stop::Refused(refusal) => return Moved {
-                symbols,
-                refusal: Some(refusal),
-            },
+                refusal: stop.refusal(),
+            };
         }
     }
     Moved {

@@ -1,9 +1,9 @@
 // Words to a buffer of any bank.
-ghost use Rattle.std.specs.Prelude.{◌≡◌, ◌+◌, ◌-◌, ◌<◌, length, slice_set};
+ghost use Rattle.std.specs.Prelude.{◌≡◌, ◌^◌, ◌≤◌, length};
 ghost use Rattle.std.specs.Option.{option_map};
-ghost use Rattle.device.specs.Words.{words};
-ghost use Rattle.transfer.specs.Symbols.{send, unpacked, spread, stop_of, why};
 ghost use Rattle.device.specs.Bank.{standing};
+ghost use Rattle.device.specs.Words.{words};
+ghost use Rattle.transfer.specs.Symbols.{send, unpacked, spread, stop_of, why, on_buffer};
 
 use crate::moves::Moved;
 use crate::part::{Part, Stop, is_end};
@@ -13,7 +13,7 @@ use device::bank::Bank;
 fn write_word<B: Bank>(bank: &mut B, n: u8, ends: bool, word: u64) -> Part
     ensures moved { result.moved ≡ (send ends (unpacked 8 word) (standing (B.devices bank.old) n)).moved }
     ensures stop { stop_of result.stop ≡ (send ends (unpacked 8 word) (standing (B.devices bank.old) n)).stop }
-    ensures after { B.devices bank.new ≡ slice_set (B.devices bank.old) n (send ends (unpacked 8 word) (standing (B.devices bank.old) n)).device }
+    ensures after { B.devices bank.new ≡ on_buffer (λ d. (send ends (unpacked 8 word) d).device) (B.devices bank.old) n }
 {
     for k in (0..8u8).rev() {
         let symbol = ((word >> (6 * k)) % 64) as u8;
@@ -22,50 +22,38 @@ fn write_word<B: Bank>(bank: &mut B, n: u8, ends: bool, word: u64) -> Part
                 if is_end(ends, symbol) {
                     return Part {
                         moved: 8 - k,
-                        stop: Stop::EndMessage,
+                        stop: Some(Stop::EndMessage),
                     };
                 }
             }
             Err(refusal) => return Part {
                 moved: 7 - k,
-                stop: Stop::Refused(refusal),
+                stop: Some(Stop::Refused(refusal)),
             },
         }
     }
     Part {
         moved: 8,
-        stop: Stop::Full,
+        stop: None,
     }
 }
 
-// Writes the words from the first to the last address.
-pub(crate) fn write_words<B: Bank>(
-    bank: &mut B,
-    n: u8,
-    ends: bool,
-    area: &[u64],
-    first: u16,
-    last: u16,
-) -> Moved
-    requires { last < length area.now }
-    ensures moved { result.symbols ≡ (send ends (spread (last + 1 - first) first area.now) (standing (B.devices bank.old) n)).moved }
-    ensures refused { option_map words result.refusal ≡ why (send ends (spread (last + 1 - first) first area.now) (standing (B.devices bank.old) n)).stop }
-    ensures after { B.devices bank.new ≡ slice_set (B.devices bank.old) n (send ends (spread (last + 1 - first) first area.now) (standing (B.devices bank.old) n)).device }
+// Writes these words of an area.
+pub(crate) fn write_words<B: Bank>(bank: &mut B, n: u8, ends: bool, area: &[u64]) -> Moved
+    requires { length area.now ≤ 2 ^ 16 }
+    ensures moved { result.symbols ≡ (send ends (spread (length area.now) 0 area.now) (standing (B.devices bank.old) n)).moved }
+    ensures refused { option_map words result.refusal ≡ why (send ends (spread (length area.now) 0 area.now) (standing (B.devices bank.old) n)).stop }
+    ensures after { B.devices bank.new ≡ on_buffer (λ d. (send ends (spread (length area.now) 0 area.now) d).device) (B.devices bank.old) n }
 {
     let mut symbols = 0;
-    for a in usize::from(first)..usize::from(last) + 1 {
-        let part = write_word(bank, n, ends, area[a]);
+    for word in area {
+        let part = write_word(bank, n, ends, *word);
         symbols += u32::from(part.moved);
-        match part.stop {
-            Stop::Full => {}
-            Stop::EndMessage => return Moved {
+        if let Some(stop) = part.stop {
+            return Moved {
                 symbols,
-                refusal: None,
-            },
-            Stop::Refused(refusal) => return Moved {
-                symbols,
-                refusal: Some(refusal),
-            },
+                refusal: stop.refusal(),
+            };
         }
     }
     Moved {

@@ -1,17 +1,24 @@
-use Rattle.std.proofs.Common.{◌≡◌, suc, ◌+◌, ◌-◌, ◌*◌, ◌^◌, ◌<◌, ◌≤◌, Ok, sym, ap, ◌∙◌, arith}
+use Rattle.std.proofs.Common.{◌≡◌, suc, ◌-◌, ◌+◌, ◌<◌, set, true, false, Ok, sym, refl, ap, ◌∙◌, arith, lit≤}
 use Rattle.device.specs.Meaning.{read_answer, read_after}
-use Rattle.device.specs.Bank.{bank_answer}
+use Rattle.device.specs.Bank.{standing, after_of, bank_answer}
+use Rattle.device.proofs.Standing.{standing_after}
 use Rattle.transfer.specs.Symbols.{ending}
-use Rattle.transfer.proofs.Gathering.{symbol_below, more, ended, fits, stopped, finished, shifted}
-use Rattle.device.proofs.Standing.{beside_more}
+use Rattle.transfer.proofs.Movement.{begun, more, last, done}
+use Rattle.transfer.proofs.Gathering.{symbol_below, fits, goes_on, one_more, ends_here, one_last, none_more, ended, full, nothing_left}
 use Rattle.transfer.proofs.reading.read_word.Given as given
 use Rattle.transfer.proofs.reading.read_word.Goals as goal
 use Rattle.transfer.proofs.reading.read_word.Goals.{After-from}
 
--- a symbol was read: what the lemmas take
+pub loop-k-init : goal.loop-k-init
+loop-k-init g c = (record { word = omega arith; room = lit≤ tt }, begun c.args.n _ _)
+
+-- a symbol was read
 module _ (g : given.Over) (c : After-from g) where
-  last : c.loop-k.k ≡ suc (c.loop-k.k - 1)
-  last = omega arith
+  k : c.loop-k.k ≡ suc (c.loop-k.k - 1)
+  k = omega arith
+
+  after : standing (g.B.Bank.devices c.read.new.self) c.args.n ≡ after_of read_after (standing (g.B.Bank.devices c.loop-k.bank) c.args.n)
+  after = standing_after read_after (g.B.Bank.devices c.loop-k.bank) c.args.n c.in-Ok.ensures.after
 
   answer : Ok c.from.result ≡ bank_answer read_answer (g.B.Bank.devices c.loop-k.bank) c.args.n
   answer = ap Ok c.from.ensures ∙ c.in-Ok.ensures.answer
@@ -19,39 +26,40 @@ module _ (g : given.Over) (c : After-from g) where
   small : c.from.result < 64
   small = symbol_below _ (g.met.B.Bank.whole c.loop-k.bank) c.args.n c.from.result answer
 
-  room : c.loop-k.word + c.from.result * 2 ^ (6 * (c.loop-k.k - 1)) + 2 ^ (6 * (c.loop-k.k - 1)) ≤ 2 ^ 48
-  room = fits c.args.ends (g.B.Bank.devices c.loop-k.bank) c.args.n _ c.loop-k.k (c.loop-k.k - 1) c.loop-k.word c.from.result last answer small c.loop-k.invariant.0
+  moved : 8 - (c.loop-k.k - 1) ≡ 8 - c.loop-k.k + 1
+  moved = omega arith
+
+  bank : g.B.Bank.devices c.read.new.self ≡ set (g.B.Bank.devices c.loop-k.bank) c.args.n (standing (g.B.Bank.devices c.read.new.self) c.args.n)
+  bank = c.in-Ok.ensures.after ∙ ap (set _ c.args.n) (sym after)
 
 pub overflow_add-word : goal.overflow_add-word
-overflow_add-word g c = let r = room g c in omega arith
+overflow_add-word g c = let r = fits _ _ _ (after g c) _ _ _ _ (k g c) c.loop-k.invariant.0 _ (answer g c) (small g c) in omega arith
 
 pub loop-k-preserved : goal.loop-k-preserved
 loop-k-preserved g c =
     let p = (goal.at.loop-k-preserved g c).After-from in
-    let whole = shifted c.loop-k.word c.from.result (c.loop-k.k - 1) (room g p) in
-    let on = ap (ending c.args.ends) c.from.ensures ∙ sym c.is_end.ensures ∙ c.if-is_end.false in
-    rw whole (
-      more c.args.ends (g.B.Bank.devices c.loop-k.bank) c.args.n _ c.loop-k.k (c.loop-k.k - 1) c.loop-k.word c.from.result (last g p) (answer g p) (small g p) c.loop-k.invariant.0
-          {b' = g.B.Bank.devices c.read.new.self} c.in-Ok.ensures.after on,
-      beside_more read_after c.args.n _ _ {b' = g.B.Bank.devices c.read.new.self} c.in-Ok.ensures.after c.loop-k.invariant.1,
+    let on : ending c.args.ends c.from.result ≡ false = ap (ending c.args.ends) c.from.ensures ∙ sym c.is_end.ensures ∙ c.if-is_end.false in (
+      goes_on c.args.ends _ _ (after g p) _ _ _ _ (k g p) c.loop-k.invariant.0 _ (answer g p) (small g p) on,
+      more c.args.n _ _ c.loop-k.invariant.1 1 _ (moved g p) (bank g p) _ (one_more c.args.ends _ _ (after g p) _ _ _ _ (k g p) c.loop-k.invariant.0 _ (answer g p) (small g p) on),
     )
 
 pub returns-then-is_end : goal.returns-then-is_end
 returns-then-is_end g c =
     let p = (goal.at.returns-then-is_end g c).After-from in
-    let whole = shifted c.loop-k.word c.from.result (c.loop-k.k - 1) (room g p) in
-    let off = ap (ending c.args.ends) c.from.ensures ∙ sym c.is_end.ensures ∙ c.if-is_end.true in
-    let r = ended c.args.ends (g.B.Bank.devices c.loop-k.bank) c.args.n _ c.loop-k.k (c.loop-k.k - 1) c.loop-k.word c.from.result (last g p) (answer g p) (small g p) c.loop-k.invariant.0
-    {b' = g.B.Bank.devices c.read.new.self} c.in-Ok.ensures.after c.loop-k.invariant.1 off in
-    record { word = rw whole r.word; moved = r.moved_all; stop = r.stop; after = r.bank }
+    let off : ending c.args.ends c.from.result ≡ true = ap (ending c.args.ends) c.from.ensures ∙ sym c.is_end.ensures ∙ c.if-is_end.true in
+    let r = last c.args.n _ _ c.loop-k.invariant.1 1 _ (moved g p) (bank g p) _ (one_last c.args.ends _ _ (after g p) _ _ _ _ (k g p) c.loop-k.invariant.0 _ (answer g p) (small g p) off) in
+    record { word = ends_here c.args.ends _ _ (after g p) _ _ _ _ (k g p) c.loop-k.invariant.0 _ (answer g p) (small g p) off; moved = r.moved; stop = r.stop; after = r.after }
 
 pub returns-in-Err : goal.returns-in-Err
 returns-in-Err g c =
-    let last : c.loop-k.k ≡ suc (c.loop-k.k - 1) = omega arith in
-    let r = stopped c.args.ends _ c.args.n _ _ _ _ _ {b' = g.B.Bank.devices c.read.new.self} last c.in-Err.ensures.answer c.in-Err.ensures.after c.loop-k.invariant.1 c.loop-k.invariant.0 in
-    record { word = r.word; moved = r.moved_all; stop = r.stop; after = r.bank }
+    let k : c.loop-k.k ≡ suc (c.loop-k.k - 1) = omega arith in
+    let moved : 7 - (c.loop-k.k - 1) ≡ 8 - c.loop-k.k + 0 = omega arith in
+    let w = ended c.args.ends _ _ refl _ _ _ _ k c.loop-k.invariant.0 _ c.in-Err.ensures.answer in
+    let r = last c.args.n _ _ c.loop-k.invariant.1 0 _ moved c.in-Err.ensures.after _ (none_more c.args.ends _ _ refl _ _ _ _ k c.loop-k.invariant.0 _ c.in-Err.ensures.answer) in
+    record { word = w; moved = r.moved; stop = r.stop; after = r.after }
 
 pub returns : goal.returns
 returns g c =
-    let r = finished c.args.ends _ c.args.n _ _ _ (omega arith) c.loop-k.invariant.1 c.loop-k.invariant.0 in
-    record { word = r.word; moved = r.moved_all; stop = r.stop; after = r.bank }
+    let moved : 8 ≡ 8 - c.loop-k.k = omega arith in
+    let r = done c.args.n _ _ c.loop-k.invariant.1 moved (nothing_left c.args.ends _ _ (omega arith)) in
+    record { word = full c.args.ends _ _ _ _ (omega arith) c.loop-k.invariant.0; moved = r.moved; stop = r.stop; after = r.after }

@@ -1,14 +1,14 @@
-use Rattle.std.proofs.Common.{◌+◌, ◌-◌, ◌*◌}
-use Rattle.transfer.specs.Symbols.{gather}
+use Rattle.std.proofs.Common.{◌≡◌, ◌-◌, ◌*◌, length}
+use Rattle.transfer.specs.Symbols.{gather, stored}
 use Rattle.device.specs.Bank.{standing}
-use Rattle.transfer.proofs.Words.{SoFar}
-use Rattle.device.proofs.Standing.{Beside}
+use Rattle.transfer.proofs.Movement.{SoFar, count}
 use Rattle.transfer.proofs.reading.read_words.Given as goal
 
-abbrev pub invariant-loop-a : goal.invariant-loop-a
-invariant-loop-a g l =
+abbrev pub invariant-loop-cell : goal.invariant-loop-cell
+invariant-loop-cell g l =
     let d = g.B.Bank.devices in
-    let n = l.last + 1 - l.first in
-    let m = l.last + 1 - l.a in
-    SoFar (gather l.ends (8 * n) (standing (d l.initial.bank) l.n)) (gather l.ends (8 * m) (standing (d l.bank) l.n)) n l.first l.initial.area m l.a l.area l.symbols
-    × Beside l.n (d l.initial.bank) (d l.bank)
+    let left = length l.initial.area - l.cell-index in
+    let whole = gather l.ends (8 * length l.initial.area) (standing (d l.initial.bank) l.n) in
+    let rest = gather l.ends (8 * left) (standing (d l.bank) l.n) in
+    (stored left l.cell-index rest.symbols l.area ≡ stored (length l.initial.area) 0 whole.symbols l.initial.area)
+    × SoFar l.n (d l.initial.bank) (count whole) l.symbols (count rest) (d l.bank)

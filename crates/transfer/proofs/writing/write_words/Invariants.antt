@@ -1,12 +1,12 @@
-use Rattle.std.proofs.Common.{◌+◌, ◌-◌}
+use Rattle.std.proofs.Common.{◌-◌, length}
 use Rattle.transfer.specs.Symbols.{send, spread}
 use Rattle.device.specs.Bank.{standing}
-use Rattle.transfer.proofs.Sending.{SoFar}
-use Rattle.device.proofs.Standing.{Beside}
+use Rattle.transfer.proofs.Movement.{SoFar}
 use Rattle.transfer.proofs.writing.write_words.Given as goal
 
-abbrev pub invariant-loop-a : goal.invariant-loop-a
-invariant-loop-a g l =
+abbrev pub invariant-loop-word : goal.invariant-loop-word
+invariant-loop-word g l =
     let d = g.B.Bank.devices in
-    SoFar (send l.ends (spread (l.last + 1 - l.first) l.first l.area) (standing (d l.initial.bank) l.n)) (send l.ends (spread (l.last + 1 - l.a) l.a l.area) (standing (d l.bank) l.n)) l.symbols
-    × Beside l.n (d l.initial.bank) (d l.bank)
+    let whole = send l.ends (spread (length l.area) 0 l.area) (standing (d l.initial.bank) l.n) in
+    let rest = send l.ends (spread (length l.area - l.word-index) l.word-index l.area) (standing (d l.bank) l.n) in
+    SoFar l.n (d l.initial.bank) whole l.symbols rest (d l.bank)

@@ -1,0 +1,87 @@
+-- The words of a move as a slice of the area.
+use Rattle.std.proofs.Common.{◌≡◌, ℕ, zero, suc, ◌+◌, ◌-◌, ◌*◌, ◌<◌, ◌≤◌, Bool, List, [], ◌∷◌, ◌++◌, length, get_or, take, drop, set, Option, sym, refl, ap, ◌∙◌, ap₂, if◌then◌else◌, ◌&&◌, nat_lt, nat_le, ◌⊎◌, inl, inr, arith}
+use Rattle.std.proofs.lemmas.List.{length-set, length-take, length-drop, take-append-drop, get_or-take, get_or-drop, set-append_left, set-append_right}
+use Rattle.std.proofs.lemmas.Bool.Decides.{nat_tests}
+use Rattle.device.specs.Meaning.{Meaning}
+use Rattle.transfer.specs.declared.moves.Transfer.TheVariants.{Read, Write}
+use Rattle.transfer.specs.Symbols.{gather, send, packed, unpacked, stored, spread}
+use Rattle.transfer.specs.Moves.{span, write_effect, effect_of}
+
+-- n words of an area from i on, and what lies behind them
+abbrev pub part : ℕ → ℕ → List ℕ → List ℕ
+part i n area = take n (drop i area)
+
+abbrev pub rest : ℕ → ℕ → List ℕ → List ℕ
+rest i n area = drop n (drop i area)
+
+length_part : (i n : ℕ) (area : List ℕ) → i + n ≤ length area → length (part i n area) ≡ n
+length_part i n area h = grind (arith, length-take, length-drop)
+
+stored_within : (n a : ℕ) (ss xs ys zs : List ℕ) → a + n ≤ length ys → stored n (length xs + a) ss (xs ++ (ys ++ zs)) ≡ xs ++ (stored n a ss ys ++ zs)
+unfolding stored
+stored_within zero a ss xs ys zs h = refl
+stored_within (suc n) a [] xs ys zs h = refl
+stored_within (suc n) a (s ∷ ss) xs ys zs h =
+    let w = packed 8 (s ∷ ss) in
+    let here : set (xs ++ (ys ++ zs)) (length xs + a) w ≡ xs ++ (set ys a w ++ zs) =
+    let back : length xs + a - length xs ≡ a = omega arith in
+    set-append_right xs (ys ++ zs) (length xs) (length xs + a) w refl (omega arith) ∙ ap (λ i. xs ++ set (ys ++ zs) i w) back ∙ ap (λ l. xs ++ l) (set-append_left ys zs a w (omega arith)) in
+    let next : length xs + a + 1 ≡ length xs + (a + 1) = omega arith in
+    ap₂ (λ i l. stored n i (drop 8 (s ∷ ss)) l) next here ∙ stored_within n (a + 1) (drop 8 (s ∷ ss)) xs (set ys a w) zs (omega (arith, length-set ys a w))
+
+stored_part : (i n : ℕ) (ss area : List ℕ) → i + n ≤ length area → stored n i ss area ≡ take i area ++ (stored n 0 ss (part i n area) ++ rest i n area)
+stored_part i n ss area h =
+    let parts : take i area ++ (part i n area ++ rest i n area) ≡ area = ap (λ l. take i area ++ l) (take-append-drop n (drop i area)) ∙ take-append-drop i area in
+    let first : length (take i area) + 0 ≡ i = grind (arith, length-take) in
+    ap₂ (λ j l. stored n j ss l) (sym first) (sym parts) ∙ stored_within n 0 ss (take i area) (part i n area) (rest i n area) (omega (arith, length_part i n area h))
+
+spread_same : (n i j : ℕ) (xs ys : List ℕ) → ((k : ℕ) → k < n → get_or xs (i + k) 0 ≡ get_or ys (j + k) 0) → spread n i xs ≡ spread n j ys
+unfolding spread
+spread_same zero i j xs ys same = refl
+spread_same (suc n) i j xs ys same =
+    let first : get_or xs i 0 ≡ get_or ys j 0 = let e = same 0 (omega arith) in grind arith in
+    ap₂ (λ w ss. unpacked 8 w ++ ss) first (spread_same n (i + 1) (j + 1) xs ys (λ k h. let e = same (1 + k) (omega arith) in grind arith))
+
+spread_part : (i n : ℕ) (area : List ℕ) → spread n i area ≡ spread n 0 (part i n area)
+spread_part i n area = spread_same n i 0 area (part i n area) (λ k h. grind (arith, get_or-take, get_or-drop))
+
+-- a read and a write of the words from i to m, by the slice of them; where one lies outside the area, by none
+module _ (ends : Bool) (i m start end : ℕ) (area : List ℕ) (d : Option Meaning)
+    (from : start ≡ if nat_lt m (length area) && nat_le i m then i else 0) (to : end ≡ if nat_lt m (length area) && nat_le i m then m + 1 else 0) where
+  abbrev words : List ℕ
+  words = part start (end - start) area
+
+  spanned : span area i m ≡ length words
+  spanned = grind (arith, nat_tests, length-take, length-drop)
+
+  whole : length words ≡ end - start
+  whole = grind (arith, nat_tests, length-take, length-drop)
+
+  inside : start + length words ≤ length area
+  inside = grind (arith, nat_tests, length-take, length-drop)
+
+  same_start : (length words ≡ 0) ⊎ (i ≡ start)
+  same_start = grind (arith, nat_tests, length-take, length-drop)
+
+  stored_there : (n : ℕ) (ss : List ℕ) → (n ≡ 0) ⊎ (i ≡ start) → stored n i ss area ≡ stored n start ss area
+  unfolding stored
+  stored_there n ss (inl e) = rw e refl
+  stored_there n ss (inr e) = rw e refl
+
+  spread_there : (n : ℕ) → (n ≡ 0) ⊎ (i ≡ start) → spread n i area ≡ spread n start area
+  unfolding spread
+  spread_there n (inl e) = rw e refl
+  spread_there n (inr e) = rw e refl
+
+  pub read_slice : (effect_of (Read ends) i m area d).area
+      ≡ take start area ++ (stored (length words) 0 (gather ends (8 * length words) d).symbols words ++ drop (end - start) (drop start area))
+  read_slice =
+      ap (λ n. stored n i (gather ends (8 * n) d).symbols area) spanned
+      ∙ stored_there (length words) _ same_start
+      ∙ stored_part start (length words) _ area inside
+      ∙ ap (λ n. take start area ++ (stored (length words) 0 (gather ends (8 * length words) d).symbols (take n (drop start area)) ++ drop n (drop start area))) whole
+
+  pub write_slice : effect_of (Write ends) i m area d ≡ write_effect area (send ends (spread (length words) 0 words) d)
+  write_slice =
+      ap (λ n. write_effect area (send ends (spread n i area) d)) spanned
+      ∙ ap (λ ss. write_effect area (send ends ss d)) (spread_there (length words) same_start ∙ spread_part start (length words) area ∙ ap (λ n. spread (length words) 0 (take n (drop start area))) whole)

@@ -6,7 +6,6 @@ use Rattle.std.proofs.lemmas.List.{length-set, get_or-set_same, get_or-set_other
 use Rattle.std.proofs.lemmas.Bool.{and_from, cond-true, cond-false, le-leb, lt-ltb, ne_eqb}
 use Rattle.std.proofs.lemmas.Bool.Decides.{nat_tests}
 use Rattle.device.specs.Meaning.{Meaning, moved, read_answer, read_after, write_answer, write_after, seek_after, put, takes, refused_write}
-use Rattle.device.specs.declared.refusal.Writing.TheVariants.{Yes}
 use Rattle.transfer.specs.Symbols.{Run, Sent, gather, go_on, behind, send, send_on, one_more, ending, packed, unpacked}
 use Rattle.transfer.specs.Symbols.Stop.{message_end}
 use Rattle.transfer.specs.Keeping.{Drum}
@@ -71,7 +70,7 @@ write_cases : (m : Meaning) (s : ℕ) → Ready m → Put m s ⊎ Refused m s
 write_cases m s r = at (takes m) refl
   where
     -- whether a drum takes a symbol hangs on its head alone
-    by_head : takes m ≡ takes (record { cells = m.cells; head = m.head; capacity = m.capacity; reads = m.reads; seeks = m.seeks; writing = Yes })
+    by_head : takes m ≡ takes (record { cells = m.cells; head = m.head; capacity = m.capacity; reads = m.reads; seeks = m.seeks; writing = Ok tt })
     by_head = ap (λ w. takes (record { cells = m.cells; head = m.head; capacity = m.capacity; reads = m.reads; seeks = m.seeks; writing = w })) r.drum.taking
 
     after : (t : Bool) → takes m ≡ t → write_after m s ≡ record {

@@ -1,7 +1,6 @@
 -- A drum keeps what is written on it.
-use Rattle.std.specs.Prelude.{◌≡◌, ℕ, ◌+◌, ◌%◌, ◌^◌, ◌<◌, ◌≤◌, true, false, ◌⊎◌, List, [], ◌∷◌, ◌++◌, length, Some, None, Option, slice_index}
+use Rattle.std.specs.Prelude.{◌≡◌, ℕ, ◌+◌, ◌%◌, ◌^◌, ◌<◌, ◌≤◌, true, false, ◌⊎◌, List, [], ◌∷◌, ◌++◌, length, Some, None, Ok, Option, slice_index}
 use Rattle.device.specs.Meaning.{Meaning, Sound}
-use Rattle.device.specs.declared.refusal.Writing.TheVariants.{Yes}
 use Rattle.transfer.specs.declared.moves.Transfer.{Transfer}
 use Rattle.transfer.specs.declared.moves.Transfer.TheVariants.{Read, Write, Seek}
 use Rattle.transfer.specs.declared.moves.Move.{Move}
@@ -11,7 +10,7 @@ use Rattle.transfer.specs.Moves.{effect}
 pub record Drum (m : Meaning) : Type 0 where
   pub reading : m.reads ≡ true
   pub seeking : m.seeks ≡ true
-  pub taking : m.writing ≡ Yes
+  pub taking : m.writing ≡ Ok tt
   pub all_there : length m.cells ≡ m.capacity
 
 -- a seek of cell c; a write and a read of the one word at address a

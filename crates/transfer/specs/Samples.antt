@@ -1,7 +1,7 @@
 -- Moves of a few words, worked out.
-use Rattle.std.specs.Prelude.{◌≡◌, ℕ, true, false, List, [], ◌∷◌, replicate, Some, None}
+use Rattle.std.specs.Prelude.{◌≡◌, ℕ, true, false, List, [], ◌∷◌, replicate, Some, None, Ok, Err}
 use Rattle.device.specs.Meaning.{Meaning}
-use Rattle.device.specs.declared.refusal.Writing.TheVariants.{Yes, WrongWay}
+use Rattle.device.specs.declared.refusal.NotWriting.TheVariants.{WrongWay}
 use Rattle.transfer.specs.declared.moves.Transfer.{Transfer}
 use Rattle.transfer.specs.declared.moves.Transfer.TheVariants.{Read, Write}
 use Rattle.transfer.specs.declared.moves.Move.{Move}
@@ -10,13 +10,13 @@ use Rattle.transfer.specs.Keeping.{seek_of, write_of, read_of}
 
 -- a tape with its head at h, a punch whose head is behind its cells, and a drum of two words
 abbrev pub tape : List ℕ → ℕ → Meaning
-tape cells h = record { cells = cells; head = h; capacity = 4096; reads = true; seeks = false; writing = WrongWay }
+tape cells h = record { cells = cells; head = h; capacity = 4096; reads = true; seeks = false; writing = Err WrongWay }
 
 abbrev pub punch : List ℕ → ℕ → Meaning
-punch cells h = record { cells = cells; head = h; capacity = 4096; reads = false; seeks = false; writing = Yes }
+punch cells h = record { cells = cells; head = h; capacity = 4096; reads = false; seeks = false; writing = Ok tt }
 
 abbrev pub small_drum : Meaning
-small_drum = record { cells = replicate 16 0; head = 0; capacity = 16; reads = true; seeks = true; writing = Yes }
+small_drum = record { cells = replicate 16 0; head = 0; capacity = 16; reads = true; seeks = true; writing = Ok tt }
 
 -- a transfer of the words 0 and 1
 abbrev pub two_words : Transfer → Move

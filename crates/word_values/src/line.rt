@@ -1,63 +1,30 @@
 // A line of values: a function's name, its arguments, =, and its results.
-use crate::calls::{call, is_answer};
-use std::alloc::{AllocError, Global};
+use crate::calls::call;
+use arrayvec::ArrayVec;
 
-#[derive(Drop)]
-pub enum Outcome<'a> {
-    Comment,
-    Unreadable,
-    Agrees(&'a str),
-    Differs(&'a str),
-}
-
-// The numbers of a text, or nothing where a piece is no number.
-fn numbers(heap: Global, text: &str) -> Result<Option<Vec<i128>>, AllocError> {
-    let mut all = Vec::new(heap);
+// At most eight numbers; nothing where a piece is no number.
+fn numbers(text: &str) -> Option<ArrayVec<i128, 8>> {
+    let mut all = ArrayVec::new();
     for piece in text.split_whitespace() {
-        match piece.parse::<i128>() {
-            Ok(n) => all.push(n)?,
-            Err(_) => return Ok(None),
-        }
+        all.try_push(piece.parse::<i128>().ok()?).ok()?;
     }
-    Ok(Some(all))
+    Some(all)
 }
 
 // The results of a line; `none` stands for no result.
-fn results(heap: Global, text: &str) -> Result<Option<Vec<i128>>, AllocError> {
+fn results(text: &str) -> Option<ArrayVec<i128, 8>> {
     if text == "none" {
-        return Ok(Some(Vec::new(heap)));
-    }
-    numbers(heap, text)
-}
-
-fn compared<'a>(name: &'a str, arguments: &[i128], results: &[i128]) -> Outcome<'a> {
-    match call(name, arguments) {
-        None => Outcome::Unreadable,
-        Some(found) => {
-            if is_answer(found, results) {
-                Outcome::Agrees(name)
-            } else {
-                Outcome::Differs(name)
-            }
-        }
+        Some(ArrayVec::new())
+    } else {
+        numbers(text)
     }
 }
 
-pub(crate) fn outcome_of<'a>(heap: Global, line: &'a str) -> Result<Outcome<'a>, AllocError> {
-    if line.starts_with('#') {
-        return Ok(Outcome::Comment);
-    }
-    let Some((call, after)) = line.split_once(" = ") else {
-        return Ok(Outcome::Unreadable);
-    };
-    let Some((name, before)) = call.split_once(' ') else {
-        return Ok(Outcome::Unreadable);
-    };
-    let Some(arguments) = numbers(heap, before)? else {
-        return Ok(Outcome::Unreadable);
-    };
-    let Some(expected) = results(heap, after)? else {
-        return Ok(Outcome::Unreadable);
-    };
-    Ok(compared(name, arguments.as_slice(), expected.as_slice()))
+// The function that a line names, and whether its results are those that the line gives. Nothing where nobody can read the line.
+pub(crate) fn compared(line: &str) -> Option<(&str, bool)> {
+    let (called, after) = line.split_once(" = ")?;
+    let (name, before) = called.split_once(' ')?;
+    let expected = results(after)?;
+    let found = call(name, numbers(before)?.as_slice())?;
+    Some((name, found.is(expected.as_slice())))
 }

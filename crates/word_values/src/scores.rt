@@ -3,9 +3,9 @@ ghost use Rattle.std.specs.Prelude.{◌≡◌, ◌+◌, ◌-◌, ◌^◌, min, i
 
 use std::alloc::{AllocError, Global};
 use std::collections::BTreeMap;
-use std::io;
+use std::fmt;
 
-#[derive(Clone, Copy)]
+#[derive(Clone, Copy, Default)]
 struct Score {
     agree: u32,
     differ: u32,
@@ -18,11 +18,6 @@ pub struct Scores {
 }
 
 impl Score {
-    const NONE: Score = Score {
-        agree: 0,
-        differ: 0,
-    };
-
     // One value more; the counts stay at 2^32 - 1.
     fn with_one(self, agrees: bool) -> Score
         ensures agree { result.agree ≡ (if agrees then min (self.agree + 1) (2 ^ 32 - 1) else self.agree) }
@@ -40,13 +35,20 @@ impl Score {
             }
         }
     }
+
+    // How many values there were.
+    fn values(self) -> u32
+        ensures { result ≡ min (self.agree + self.differ) (2 ^ 32 - 1) }
+    {
+        self.agree.saturating_add(self.differ)
+    }
 }
 
 impl Scores {
     pub(crate) fn new(heap: Global) -> Scores {
         Scores {
             by_name: BTreeMap::new(heap),
-            all: Score::NONE,
+            all: Score::default(),
         }
     }
 
@@ -57,9 +59,11 @@ impl Scores {
         name: &str,
         agrees: bool,
     ) -> Result<(), AllocError> {
-        let score = self.by_name.get(name).copied().unwrap_or(Score::NONE);
-        let key = String::from_str(heap, name)?;
-        self.by_name.insert(key, score.with_one(agrees))?;
+        let score = self
+            .by_name
+            .entry(String::from_str(heap, name)?)?
+            .or_default();
+        *score = score.with_one(agrees);
         self.all = self.all.with_one(agrees);
         Ok(())
     }
@@ -70,17 +74,18 @@ impl Scores {
     {
         self.all.differ
     }
+}
 
-    // A line for each function, and one for all.
-    pub(crate) fn print(&self, rt: &HostRuntime) -> io::Result<()> {
+// A line for each function, and one for all.
+impl fmt::Display for Scores {
+    fn fmt<W: fmt::Write>(&self, f: &mut fmt::Formatter<W>) -> fmt::Result {
         for (name, score) in self.by_name.iter() {
             let agree = score.agree;
-            let values = score.agree.saturating_add(score.differ);
-            println!(rt; "{name}: {agree} of {values} agree")?;
+            let values = score.values();
+            writeln!(f, "{name}: {agree} of {values} agree")?;
         }
-        let agree = self.all.agree;
-        let differ = self.all.differ;
-        let values = agree.saturating_add(differ);
-        println!(rt; "{values} values, {agree} agree, {differ} differ")
+        let Score { agree, differ } = self.all;
+        let values = self.all.values();
+        write!(f, "{values} values, {agree} agree, {differ} differ")
     }
 }

@@ -3,8 +3,8 @@ ghost use Rattle.std.specs.Prelude.{◌≡◌, codes, Err};
 ghost use Rattle.device.specs.Meaning.{refused_write};
 ghost use Rattle.device.specs.Words.{number_of, words};
 
-use std::error::Error;
-use std::fmt;
+use std::{error, fmt};
+use thiserror::Error;
 
 // Why a device or a bank refuses a call.
 #[derive(Clone, Copy, PartialEq, Eq, Debug)]
@@ -40,7 +40,7 @@ impl fmt::Display for Refusal {
     }
 }
 
-impl Error for Refusal {}
+impl error::Error for Refusal {}
 
 // Why a device does not write, whatever is in its cells.
 #[derive(Clone, Copy, PartialEq, Eq, Debug)]
@@ -60,11 +60,14 @@ impl From<NotWriting> for Refusal {
     }
 }
 
-// What a check refuses of its input.
-#[derive(Clone, Copy, PartialEq, Eq, Debug)]
+// What a check refuses of its input. Its text says what is wrong and what to do, for a person.
+#[derive(Clone, Copy, PartialEq, Eq, Debug, Error)]
 pub enum InputRefusal {
+    #[error("refused 2, the buffer is over 15: choose one from 0 to 15")]
     BufferOver15,
+    #[error("refused 6, there are more than 4096 frames: cut the tape into shorter ones")]
     FramesOver4096,
+    #[error("refused 7, the table does not hold each symbol 0 to 63 once: mend the table")]
     TableUnfit,
 }
 
@@ -79,21 +82,3 @@ impl InputRefusal {
         }
     }
 }
-
-// What is wrong and what to do, for a person.
-impl fmt::Display for InputRefusal {
-    fn fmt<W: fmt::Write>(&self, f: &mut fmt::Formatter<W>) -> fmt::Result {
-        f.write_str(match self {
-            InputRefusal::BufferOver15 =>
-                "refused 2, the buffer is over 15: choose one from 0 to 15",
-            InputRefusal::FramesOver4096 => {
-                "refused 6, there are more than 4096 frames: cut the tape into shorter ones"
-            }
-            InputRefusal::TableUnfit => {
-                "refused 7, the table does not hold each symbol 0 to 63 once: mend the table"
-            }
-        })
-    }
-}
-
-impl Error for InputRefusal {}

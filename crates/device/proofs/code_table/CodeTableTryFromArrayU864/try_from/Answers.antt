@@ -2,7 +2,8 @@ use Rattle.std.proofs.Common.{◌≡◌, ◌<◌, eqb, ◌≢◌, length, get_or
 use Rattle.std.proofs.lemmas.List.{get_or-set_same, get_or-set_other}
 use Rattle.std.proofs.lemmas.Bool.{eq-eqb, ne_eqb, cond-true, cond-false}
 use Rattle.device.specs.Layers.{occurs, fit}
-use Rattle.device.proofs.Cells.{below_set, below_replicate}
+use Rattle.std.proofs.lemmas.Grind.{common_steps}
+use Rattle.device.proofs.Cells.{below_replicate}
 use Rattle.device.proofs.Tables.{once_below, each_true, each_false}
 use Rattle.device.proofs.code_table.CodeTableTryFromArrayU864.try_from.Goals as goal
 
@@ -18,7 +19,7 @@ loop-symbol-preserved c =
     let found = c.in-Some.ensures in
     let kept = c.loop-symbol.invariant in
     record {
-      places = below_set 64 back s place kept.places found.0;
+      places = grind (arith, common_steps);
       once = below_more (λ k. occurs k shown ≡ 1) s kept.once found.2;
       inverse = below_more (λ k. get_or shown (get_or (set back s place) k 0) 0 ≡ k) s
           (λ k h. let other : k ≢ s = omega arith in rw get_or-set_other (kept.inverse k h))

@@ -8,11 +8,7 @@ ghost use Rattle.line_printer.specs.Code.{printed as printed_char};
 pub fn printed(symbol: u8) -> Option<char>
     ensures { result ≡ printed_char symbol }
 {
-    if symbol < 64 {
-        CODE[symbol as usize]
-    } else {
-        None
-    }
+    *CODE.get(usize::from(symbol))?
 }
 
 // By rows of eight symbols: octal 00 to 07, 10 to 17 and so on.

@@ -1,3 +1,4 @@
 pub mod Examples
 pub mod Frames
+pub mod Readers
 pub mod Units

@@ -34,17 +34,17 @@ impl Device for Drum {
     ghost sound = { Prim.search rules };
 
     fn read(&mut self) -> Result<u8, Refusal> {
-        let at = usize::from(self.head);
-        if at >= 4096 {
-            return Err(Refusal::NoMore);
-        }
+        let symbol = *self
+            .cells
+            .get(usize::from(self.head))
+            .ok_or(Refusal::NoMore)?;
         self.head += 1;
-        Ok(self.cells[at])
+        Ok(symbol)
     }
 
     fn write(&mut self, symbol: u8) -> Result<(), Refusal> {
         let at = usize::from(self.head);
-        if at >= 4096 {
+        if at >= self.cells.len() {
             return Err(Refusal::Full);
         }
         self.cells[at] = symbol % 64;

@@ -1,19 +1,20 @@
 // The frames of paper tape: which bytes are sound, the cell that a frame makes, and the frame of a symbol.
-ghost use Rattle.std.specs.Prelude.{◌≡◌, ◌%◌};
-ghost use Rattle.units.specs.Frames.{sound_frame, cell_of, frame_for};
+ghost use Rattle.std.specs.Prelude.{◌≡◌, ◌%◌, ◌<◌, IfSome};
+ghost use Rattle.units.specs.Frames.{sound_frame, cell_of, cell_number, frame_for};
 
 // Whether a byte is a sound frame.
 pub fn is_sound(frame: u8) -> bool
     ensures { result ≡ sound_frame frame }
 {
-    MARKS[frame as usize]
+    MARKS[usize::from(frame)]
 }
 
-// The cell that a frame makes: its low six bits if it is sound, else 64.
-pub fn cell_of(frame: u8) -> u8
-    ensures { result ≡ cell_of frame }
+// The cell that a frame makes: the symbol in its low six bits if it is sound, else none.
+pub fn cell_of(frame: u8) -> Option<u8>
+    ensures cell { cell_number result ≡ cell_of frame }
+    ensures symbol { IfSome result (λ symbol. symbol < 64) }
 {
-    if is_sound(frame) { frame % 64 } else { 64 }
+    is_sound(frame).then_some(frame % 64)
 }
 
 // The sound frame of a symbol, taken modulo 64: bit 7 makes the number of ones even.

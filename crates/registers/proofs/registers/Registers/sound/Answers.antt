@@ -1,4 +1,4 @@
-use Rattle.std.proofs.Common.{ℕ, zero, suc, ◌^◌, ◌<◌, List, [], ◌∷◌, map, reverse, length, get_or, subst, arith, lit<}
+use Rattle.std.proofs.Common.{ℕ, zero, suc, ◌^◌, ◌<◌, List, [], ◌∷◌, map, reverse, get_or, subst, lit<}
 use Rattle.std.proofs.lemmas.List.{length-map, length-reverse}
 use Rattle.word.specs.declared.word.Word.{Word}
 use Rattle.registers.specs.Registers.{bits_of}

@@ -9,7 +9,7 @@
 -- held_up           its buffer is busy; BUSY is not held up
 -- touches_lock      a word that it touches is locked
 -- order_bounds      all bounds of an order that could be read, in the order in which they are judged
-use Rattle.std.specs.Prelude.{ℕ, ◌+◌, ◌*◌, ◌/◌, Bool, true, false, cond, not, ◌&&◌, ◌||◌, leb, List, [], ◌∷◌, length, is_some, Some, None, Option, nat_le, nat_lt}
+use Rattle.std.specs.Prelude.{ℕ, ◌+◌, ◌*◌, ◌/◌, Bool, true, false, cond, not, ◌&&◌, ◌||◌, leb, List, [], ◌∷◌, length, is_some, Some, None, Ok, Err, Option, Result, nat_le, nat_lt}
 use Rattle.order.specs.Cells.{Cells, cells}
 use Rattle.order.specs.declared.code.Order.{Order}
 use Rattle.order.specs.declared.code.Order.TheVariants.{Register, Store, Indexed, Transfer, Out}
@@ -127,3 +127,8 @@ transfer_bounds x q o =
 abbrev pub first : List (Bound × Bool) → Option Bound
 first [] = None
 first (b ∷ bs) = cond b.1 (Some b.0) (first bs)
+
+-- that none is broken, or the first that is
+abbrev pub passed : Option Bound → Result (Unit {0}) Bound
+passed None = Ok tt
+passed (Some b) = Err b

@@ -2,4 +2,5 @@ pub mod Bounds
 pub mod Outlook
 pub mod Own
 pub mod Places
+pub mod View
 pub mod Words

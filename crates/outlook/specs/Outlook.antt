@@ -2,12 +2,13 @@
 use Rattle.std.specs.Prelude.{ℕ, cond, Some, None, Ok, Err, Option, Result}
 use Rattle.order.specs.declared.code.Order.{Order}
 use Rattle.order.specs.declared.code.Undecoded.{Undecoded}
-use Rattle.order.specs.declared.code.Undecoded.TheVariants.{UnknownCommand, Operand}
 use Rattle.outlook.specs.Own.{Own}
 use Rattle.outlook.specs.Places.{place_after, order_row, order_here}
+use Rattle.outlook.specs.Words.{unreadable}
+use Rattle.outlook.specs.Words.{unreadable}
 use Rattle.outlook.specs.Bounds.{place_outside, words_locked, order_bounds, first}
 use Rattle.outlook.specs.declared.bound.Bound.{Bound}
-use Rattle.outlook.specs.declared.bound.Bound.TheVariants.{Place, OrderLock, Command, Operands}
+use Rattle.outlook.specs.declared.bound.Bound.TheVariants.{Place, OrderLock}
 use Rattle.outlook.specs.declared.next.Next.{Next}
 
 -- the place of the order after the next one, if that is done and does not jump
@@ -17,11 +18,6 @@ next_place o = place_after o.regs.place (order_row o).length
 abbrev pub judged : Order → ℕ → Option Bound → Result Next Bound
 judged x place None = Ok (record { order = x; place = place })
 judged x place (Some b) = Err b
-
--- the bound that bytes break which say no order
-abbrev pub unreadable : Undecoded → Bound
-unreadable UnknownCommand = Command
-unreadable Operand = Operands
 
 abbrev pub read_as : Result Order Undecoded → Own → Result Next Bound
 read_as (Err u) o = Err (unreadable u)

@@ -7,8 +7,7 @@
 -- lines_locked    whether one of the words from the first to the last address is locked by a buffer of the program
 use Rattle.std.specs.Prelude.{ℕ, ◌+◌, ◌-◌, Bool, true, false, List, Some, None, Option}
 use Rattle.device.specs.Meaning.{Meaning}
-use Rattle.registers.specs.Registers.{Regs, regs_of}
-use Rattle.registers.specs.declared.registers.Registers.{Registers}
+use Rattle.registers.specs.Registers.{Regs}
 use Rattle.buffers.specs.declared.buffer.Work.{Work}
 use Rattle.buffers.specs.declared.buffer.Work.TheVariants.{Idle}
 use Rattle.buffers.specs.declared.buffer.Buffer.{Buffer}
@@ -34,8 +33,8 @@ lines_of slot buffers bank k = line_if (holds slot (buffers k)) (bank k) (buffer
 abbrev pub owning : List ℕ → Regs → Bool → (ℕ → Option Line) → Own
 owning area regs ready lines = record { area = area; regs = regs; ready = ready; lines = lines }
 
-abbrev pub own_of : ℕ → Registers → List ℕ → Bool → (ℕ → Buffer) → (ℕ → Option Meaning) → Own
-own_of slot regs area ready buffers bank = owning area (regs_of regs) ready (lines_of slot buffers bank)
+abbrev pub own_of : ℕ → Regs → List ℕ → Bool → (ℕ → Buffer) → (ℕ → Option Meaning) → Own
+own_of slot regs area ready buffers bank = owning area regs ready (lines_of slot buffers bank)
 
 -- the work and the device of a buffer; where it is not the program's, idle and none
 abbrev pub line_work : Option Line → Work

@@ -1,6 +1,8 @@
 -- The bounds that an order can break, each with its place in the list and the violation that it is.
 use Rattle.std.specs.Prelude.{ℕ}
 use Prim.Native.String.{String}
+use Rattle.order.specs.declared.code.Undecoded.{Undecoded}
+use Rattle.order.specs.declared.code.Undecoded.TheVariants.{UnknownCommand, Operand}
 use Rattle.outlook.specs.declared.bound.Bound.{Bound}
 use Rattle.outlook.specs.declared.bound.Bound.TheVariants.{Place, OrderLock, Command, Operands, CellsShort, CellsOver, ShiftLength, Address, NoBuffer, Limits, Busy, WordLock}
 use Rattle.outlook.specs.declared.bound.Violation.{Violation}
@@ -35,6 +37,11 @@ violation_of NoBuffer = Liv
 violation_of Limits = Liv
 violation_of Busy = Lov
 violation_of WordLock = Lov
+
+-- the bound that bytes break which say no order
+abbrev pub unreadable : Undecoded → Bound
+unreadable UnknownCommand = Command
+unreadable Operand = Operands
 
 -- what a person reads
 abbrev pub bound_words : Bound → String

@@ -1,6 +1,8 @@
 // The bounds that an order can break.
 ghost use Rattle.std.specs.Prelude.{◌≡◌, codes};
-ghost use Rattle.outlook.specs.Words.{bound_number, violation_of, bound_words, violation_name};
+ghost use Rattle.outlook.specs.Words.{bound_number, violation_of, bound_words, violation_name, unreadable};
+
+use order::code::Undecoded;
 
 // In the order in which they are judged.
 #[derive(Clone, Copy, PartialEq, Eq, Debug)]
@@ -87,6 +89,18 @@ impl Bound {
             Bound::Limits => "I and M",
             Bound::Busy => "buffer busy",
             Bound::WordLock => "lock on a word touched",
+        }
+    }
+}
+
+// The bound that bytes break which say no order.
+impl From<Undecoded> for Bound {
+    ghost from_gives = { λ undecoded bound. bound ≡ unreadable undecoded };
+
+    fn from(undecoded: Undecoded) -> Bound {
+        match undecoded {
+            Undecoded::UnknownCommand => Bound::Command,
+            Undecoded::Operand => Bound::Operands,
         }
     }
 }

@@ -2,6 +2,5 @@
 #![tactic(auto)]
 
 pub mod bound;
-mod bounds;
 pub mod next;
-mod places;
+mod view;

@@ -1,8 +1,9 @@
 -- A test over the numbers below some number.
-use Rattle.std.proofs.Common.{◌≡◌, ℕ, zero, suc, ◌+◌, ◌-◌, ◌*◌, ◌/◌, ◌<◌, ◌≤◌, min, max, Bool, true, false, ◌&&◌, ◌||◌, leb, List, [], ◌∷◌, length, get_or, Decides, sym, refl, ap, ◌∙◌, inl, inr, add-one, arith}
+use Rattle.std.proofs.Common.{◌≡◌, ℕ, zero, suc, ◌+◌, ◌-◌, ◌*◌, ◌/◌, ◌<◌, ◌≤◌, min, max, Bool, true, false, ◌&&◌, ◌||◌, leb, List, [], ◌∷◌, length, get_or, Decides, sym, refl, ap, ◌∙◌, inl, inr, add-one, zero-add, arith}
 use Rattle.std.proofs.lemmas.Bool.Decides.{same_from_decides, Decides-below_or}
 use Rattle.std.proofs.lemmas.Bool.{cases_eq, cases_lt, or_left, or_right, or_from, and_parts, and_from, leb-true, le-leb, both_ways, false_from_ne_true}
-use Rattle.std.specs.List.{list_any}
+use mathlib.Core.Path.{fun_ext}
+use Rattle.std.specs.List.{list_any, range_with_len}
 use Rattle.buffers.specs.Buffers.{any_below}
 
 pub any_found : (n : ℕ) (test : ℕ → Bool) (i : ℕ) → i < n → test i ≡ true → any_below n test ≡ true
@@ -30,6 +31,18 @@ pub any_in : {X : Type 0} (test : X → Bool) (xs : List X) (d : X) → list_any
 unfolding any_below
 any_in test [] d = refl
 any_in test (x ∷ xs) d = ap (λ b. test x || b) (any_in test xs d) ∙ any_first (length xs) (λ k. test (get_or (x ∷ xs) k d))
+
+-- a test that holds of a number of a range
+any_from : (test : ℕ → Bool) (a n : ℕ) → list_any test (range_with_len a n) ≡ any_below n (λ k. test (a + k))
+unfolding any_below
+any_from test a zero = refl
+any_from test a (suc n) =
+    ap (λ b. test a || b) (any_from test (a + 1) n ∙ ap (any_below n) (fun_ext (λ k. let e : a + 1 + k ≡ a + suc k = omega arith in ap test e)))
+    ∙ ap (λ i. test i || any_below n (λ k. test (a + suc k))) (let e : a ≡ a + 0 = omega arith in e)
+    ∙ any_first n (λ k. test (a + k))
+
+pub any_in_range : (test : ℕ → Bool) (n : ℕ) → list_any test (range_with_len 0 n) ≡ any_below n test
+any_in_range test n = any_from test 0 n ∙ ap (any_below n) (fun_ext (λ k. ap test (zero-add k)))
 
 pub any_more : (test : ℕ → Bool) (i : ℕ) → any_below i test ≡ false → test i ≡ false → any_below (i + 1) test ≡ false
 unfolding any_below

@@ -99,6 +99,7 @@ impl View<'_> {
     }
 
     // The first bound that an order breaks, its row's cells being its own.
+    #[tactic(auto, using(crate::proofs::Lines::locked_lines))]
     pub(super) fn judge(&self, order: &Order, row: Row) -> Result<(), Bound>
         requires { row_cells row ≡ cells order.now }
         ensures { (ready : Bool) (bank : ℕ → Option Meaning) → result ≡ passed (first (order_bounds order.now (own_seen self.now ready bank))) }

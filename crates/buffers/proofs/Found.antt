@@ -116,10 +116,6 @@ module _ (f l i m : ℕ) where
     λ k. le-leb i m k.0,
   )
 
--- a loop that looks for such a number, and where it ends
-pub any_all : (n : ℕ) (test : ℕ → Bool) (i : ℕ) → i ≡ n → any_below i test ≡ false → false ≡ any_below n test
-any_all n test i e h = sym (ap (λ j. any_below j test) (sym e) ∙ h)
-
 -- a test that holds of no number
 pub any_not : (n : ℕ) (test : ℕ → Bool) → ((k : ℕ) → test k ≡ false) → any_below n test ≡ false
 unfolding any_below

@@ -2,7 +2,7 @@
 use Rattle.std.proofs.Common.{◌≡◌, ℕ, ◌+◌, ◌-◌, ◌≤◌, Bool, true, false, cond, not, ◌&&◌, ◌||◌, ltb, List, length, is_some, Some, None, Option, sym, refl, ap, ◌∙◌, inl, inr, arith}
 use mathlib.Core.Path.{fun_ext}
 use Rattle.std.proofs.lemmas.List.{get_or_past}
-use Rattle.std.proofs.lemmas.Bool.{cases_lt, le-ltb, or_from, or_right}
+use Rattle.std.proofs.lemmas.Bool.{cases_lt, le-ltb, or_from}
 use Rattle.device.specs.Meaning.{Meaning}
 use Rattle.buffers.specs.declared.buffer.Work.{Work}
 use Rattle.buffers.specs.declared.buffer.Buffer.{Buffer}
@@ -34,13 +34,13 @@ held slot n table w long e = at (holds slot (records table n)) refl e
     inside h = elim (cases_lt 15 n) [
       | inl far ↦ let past : records table n ≡ free = get_or_past table n free (omega (arith, long)) in
           let t : true ≡ false = sym h ∙ ap (holds slot) past in
-          let z : ◌≡◌ {A = ℕ} 0 1 = cc in absurd (omega arith)
+          cc
       | inr near ↦ near
     ]
 
     at : (h : Bool) → holds slot (records table n) ≡ h → Some w ≡ cond h (Some (records table n).work) None → Held slot n table w
     at true eh e = record { within = inside eh; held = eh; same = cc }
-    at false eh e = let z : ◌≡◌ {A = ℕ} 0 1 = cc in absurd (omega arith)
+    at false eh e = cc
 
 module _ (slot n : ℕ) (table : List Buffer) (bank : ℕ → Option Meaning) where
   pub is_there : (w : Work) → Held slot n table w → (ltb 15 n || not (is_some (lines_of slot (records table) bank n))) ≡ false
@@ -48,10 +48,3 @@ module _ (slot n : ℕ) (table : List Buffer) (bank : ℕ → Option Meaning) wh
 
   pub same_work : (w : Work) → Held slot n table w → line_work (lines_of slot (records table) bank n) ≡ w
   same_work w h = ap (λ b. line_work (line_if b (bank n) (records table n).work)) h.held ∙ sym h.same
-
-  pub not_there : None ≡ work_of slot (records table n) → (ltb 15 n || not (is_some (lines_of slot (records table) bank n))) ≡ true
-  not_there e = or_right (ltb 15 n) _ (ap not (line_there (holds slot (records table n)) (bank n) (records table n).work ∙ at (holds slot (records table n)) e))
-    where
-      at : (h : Bool) → ◌≡◌ {A = Option Work} None (cond h (Some (records table n).work) None) → h ≡ false
-      at true e = let z : ◌≡◌ {A = ℕ} 0 1 = cc in absurd (omega arith)
-      at false e = refl

@@ -3,6 +3,8 @@ ghost use Rattle.std.specs.Prelude.{◌≡◌, codes};
 ghost use Rattle.outlook.specs.Words.{bound_number, violation_of, bound_words, violation_name, unreadable};
 
 use order::code::Undecoded;
+use std::error::Error;
+use std::fmt;
 
 // In the order in which they are judged.
 #[derive(Clone, Copy, PartialEq, Eq, Debug)]
@@ -93,6 +95,14 @@ impl Bound {
     }
 }
 
+impl fmt::Display for Bound {
+    fn fmt<W: fmt::Write>(&self, f: &mut fmt::Formatter<W>) -> fmt::Result {
+        f.write_str(self.words())
+    }
+}
+
+impl Error for Bound {}
+
 // The bound that bytes break which say no order.
 impl From<Undecoded> for Bound {
     ghost from_gives = { λ undecoded bound. bound ≡ unreadable undecoded };
@@ -114,5 +124,11 @@ impl Violation {
             Violation::Nouv => "NOUV",
             Violation::Lov => "LOV",
         }
+    }
+}
+
+impl fmt::Display for Violation {
+    fn fmt<W: fmt::Write>(&self, f: &mut fmt::Formatter<W>) -> fmt::Result {
+        f.write_str(self.name())
     }
 }

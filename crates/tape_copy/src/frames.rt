@@ -11,9 +11,8 @@ pub fn frames_for(heap: Global, symbols: &[u8]) -> Result<Vec<u8>, AllocError>
     ensures frames { IfOk result (λ v. v.items ≡ map (λ s. frame_for (s % 64)) symbols.now) }
     ensures back { CopiesReadBack }
 {
-    let mut frames = Vec::with_capacity(heap, symbols.len())?;
-    for symbol in symbols {
-        frames.push_reserved(frame_for(*symbol));
-    }
-    Ok(frames)
+    symbols
+        .iter()
+        .map(|symbol| frame_for(*symbol))
+        .collect(heap)
 }

@@ -24,22 +24,21 @@ pub fn read_out<B: Bank>(heap: Global, bank: &mut B, n: u8) -> Result<Reading, A
     ensures answer { IfOk result (λ x. (x.symbols.items ≡ sound_cells (unread (standing (B.devices bank.old) n))) × (x.damaged.items ≡ damaged_cells 0 (unread (standing (B.devices bank.old) n))) × (words x.stop ≡ stop_of (standing (B.devices bank.old) n))) }
     ensures after { MatchResult result (λ _. B.devices bank.new ≡ slice_set (B.devices bank.old) n (run_out (standing (B.devices bank.old) n))) (λ _. B.devices bank.new ≡ B.devices bank.old) }
 {
-    let mut symbols = Vec::with_capacity(heap, 4096)?;
-    let mut damaged = Vec::with_capacity(heap, 4096)?;
+    let most = usize::from(MOST_CELLS);
+    let mut symbols = Vec::with_capacity(heap, most)?;
+    let mut damaged = Vec::with_capacity(heap, most)?;
     for number in 0..MOST_CELLS + 1 {
         match bank.read(n) {
             Ok(symbol) => symbols.push_reserved(symbol),
-            Err(refusal) => match refusal {
-                Refusal::Damaged => damaged.push_reserved(number),
-                stop => {
-                    return Ok(Reading {
-                        symbols,
-                        damaged,
-                        stop,
-                    });
-                }
-            },
+            Err(stop) if stop != Refusal::Damaged => {
+                return Ok(Reading {
+                    symbols,
+                    damaged,
+                    stop,
+                });
+            }
+            Err(_) => damaged.push_reserved(number),
         }
     }
-    unreachable()
+    unreachable!()
 }

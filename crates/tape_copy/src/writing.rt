@@ -22,14 +22,11 @@ pub fn write_in<B: Bank>(bank: &mut B, n: u8, symbols: &[u8]) -> WriteResult
     ensures after { B.devices bank.new ≡ slice_set (B.devices bank.old) n (written symbols.now (standing (B.devices bank.old) n)).device }
 {
     for (i, symbol) in symbols.iter().enumerate() {
-        match bank.write(n, *symbol) {
-            Ok(()) => {}
-            Err(refusal) => {
-                return WriteResult {
-                    count: i,
-                    refusal: Some(refusal),
-                };
-            }
+        if let Err(refusal) = bank.write(n, *symbol) {
+            return WriteResult {
+                count: i,
+                refusal: Some(refusal),
+            };
         }
     }
     WriteResult {

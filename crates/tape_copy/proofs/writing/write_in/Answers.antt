@@ -18,7 +18,7 @@ loop-i-preserved g c =
     let s = get_or ss i 0 in
     let f : Meaning → Meaning = λ m. write_after m s in
     let here = d c.loop-i.bank in
-    let told = c.in-Ok.ensures in (
+    let told = c.in_default.ensures in (
       more _ ss i s (standing here n) c.loop-i-test.true refl c.loop-i.invariant.0 {d' = standing (d c.write.new.self) n} (standing_after f here n {b' = d c.write.new.self} told.after) told.answer,
       beside_more f n (d c.args.bank.now) here {b' = d c.write.new.self} told.after c.loop-i.invariant.1,
     )

@@ -5,6 +5,7 @@ use Rattle.std.proofs.lemmas.Nat.{pow_pos}
 use Rattle.std.proofs.lemmas.List.{get_or-drop, get_or-set_same, get_or-set_other, set_past}
 use Rattle.std.proofs.lemmas.Bool.{cases_eq, cases_lt, cond_both}
 use Rattle.std.proofs.lemmas.Bool.Decides.{nat_tests}
+use Rattle.std.proofs.lemmas.Grind.{common_steps}
 use Rattle.device.specs.Meaning.{Meaning, Below, Sound, read_answer, read_after}
 use Rattle.device.specs.Bank.{answer_of, after_of}
 use Rattle.transfer.specs.declared.moves.Transfer.{Transfer}
@@ -21,29 +22,15 @@ Fine d = IfSome d Sound
 
 read_fine : (d : Option Meaning) → Fine d → Fine (after_of read_after d)
 read_fine None h = tt
-read_fine (Some m) h = record {
-  cells_small = h.cells_small;
-  head_within = let w = h.head_within in grind (arith, nat_tests);
-  cells_fit = h.cells_fit;
-  capacity_small = h.capacity_small;
-}
+read_fine (Some m) h = record { cells_small = h.cells_small; head_within = grind (arith, nat_tests); cells_fit = h.cells_fit; capacity_small = h.capacity_small }
 
 answer_below : (d : Option Meaning) → Fine d → (s : ℕ) → Ok s ≡ answer_of read_answer d → s < 64
-answer_below None h s e = let z : ◌≡◌ {A = ℕ} 0 1 = cc in omega arith
+answer_below None h s e = cc
 answer_below (Some m) h s e = read_below m h s e
 
 -- the symbols of a run are below 64
 below_on : (ends : Bool) (r : Result ℕ String) (d : Option Meaning) (x : Run) → ((s : ℕ) → Ok s ≡ r → s < 64) → Below 64 x.symbols → Below 64 (go_on ends r d x).symbols
-below_on ends (Err e) d x small h k = lit< tt
-below_on ends (Ok s) d x small h k = at (ending ends s) k
-  where
-    first : (ss : List ℕ) → Below 64 ss → Below 64 (s ∷ ss)
-    first ss b zero = small s refl
-    first ss b (suc k) = b k
-
-    at : (t : Bool) → Below 64 (cond t (record { symbols = s ∷ []; stop = message_end; device = d }) (behind s x)).symbols
-    at true = first [] (λ k. lit< tt)
-    at false = first x.symbols h
+below_on ends r d x small h k = grind (arith, nat_tests)
 
 gather_below : (ends : Bool) (k : ℕ) (d : Option Meaning) → Fine d → Below 64 (gather ends k d).symbols
 unfolding gather
@@ -63,37 +50,19 @@ stored_confined : (n a : ℕ) (ss area : List ℕ) → Below 64 ss → (k : ℕ)
 unfolding stored
 stored_confined zero a ss area h k = inr refl
 stored_confined (suc n) a [] area h k = inr refl
-stored_confined (suc n) a (s ∷ ss) area h k = at (stored_confined n (a + 1) (drop 8 (s ∷ ss)) (set area a (packed 8 (s ∷ ss))) (λ i. rw (get_or-drop 8 (s ∷ ss) i 0) (h (8 + i))) k)
-  where
-    after : List ℕ
-    after = stored n (a + 1) (drop 8 (s ∷ ss)) (set area a (packed 8 (s ∷ ss)))
-
-    at : ((a + 1 ≤ k) × (k < a + 1 + n) × (get_or after k 0 < 2 ^ 48)) ⊎ (get_or after k 0 ≡ get_or (set area a (packed 8 (s ∷ ss))) k 0)
-        → ((a ≤ k) × (k < a + suc n) × (get_or after k 0 < 2 ^ 48)) ⊎ (get_or after k 0 ≡ get_or area k 0)
-    at (inl b) = inl (omega (arith, b.0), omega (arith, b.1), b.2)
-    at (inr e) = elim (cases_eq k a) [
-      | inl same ↦ elim (cases_lt a (length area)) [
-        | inl l ↦
-            let value : get_or after k 0 ≡ packed 8 (s ∷ ss) =
-            e ∙ ap (λ j. get_or (set area a (packed 8 (s ∷ ss))) j 0) same ∙ get_or-set_same area a (packed 8 (s ∷ ss)) 0 l in
-            inl (omega arith, omega arith, omega (arith, value, packed_below 8 (s ∷ ss) h))
-        | inr p ↦ inr (e ∙ ap (λ (y : List ℕ). get_or y k 0) (set_past area a (packed 8 (s ∷ ss)) p))
-      ]
-      | inr other ↦ inr (e ∙ get_or-set_other area a k (packed 8 (s ∷ ss)) 0 other)
-    ]
-
-span_most : (area : List ℕ) (i m : ℕ) → span area i m ≤ m + 1 - i
-span_most area i m = cond_both (ltb m (length area)) (m + 1 - i) 0 (λ n. n ≤ m + 1 - i) (λ e. omega arith) (λ e. omega arith)
+stored_confined (suc n) a (s ∷ ss) area h k =
+    let small = packed_below 8 (s ∷ ss) h in
+    let on = stored_confined n (a + 1) (drop 8 (s ∷ ss)) (set area a (packed 8 (s ∷ ss))) (λ i. rw (get_or-drop 8 (s ∷ ss) i 0) (h (8 + i))) k in
+    grind (arith, common_steps, small, on)
 
 pub confined : (x : Move) (area : List ℕ) (d : Option Meaning) → Fine d → Confined x area (effect x area d).area
 confined x area d h a = at x.transfer
   where
-    inside : (ss : List ℕ) → ((x.i ≤ a) × (a < x.i + span area x.i x.m) × (get_or (stored (span area x.i x.m) x.i ss area) a 0 < 2 ^ 48)) ⊎ (get_or (stored (span area x.i x.m) x.i ss area) a 0 ≡ get_or area a 0)
-        → ((x.i ≤ a) × (a ≤ x.m) × (get_or (stored (span area x.i x.m) x.i ss area) a 0 < 2 ^ 48)) ⊎ (get_or (stored (span area x.i x.m) x.i ss area) a 0 ≡ get_or area a 0)
-    inside ss (inl b) = inl (b.0, omega (arith, b.0, b.1, span_most area x.i x.m), b.2)
-    inside ss (inr e) = inr e
-
     at : (t : Transfer) → ((x.i ≤ a) × (a ≤ x.m) × (get_or (effect_of t x.i x.m area d).area a 0 < 2 ^ 48)) ⊎ (get_or (effect_of t x.i x.m area d).area a 0 ≡ get_or area a 0)
-    at (Read ends) = inside _ (stored_confined (span area x.i x.m) x.i _ area (gather_below ends (8 * span area x.i x.m) d h) a)
+    at (Read ends) =
+        let n = span area x.i x.m in
+        let run = gather ends (8 * n) d in
+        let here = stored_confined n x.i run.symbols area (gather_below ends (8 * n) d h) a in
+        grind (arith, nat_tests)
     at (Write ends) = inr refl
     at Seek = inr refl

@@ -1,5 +1,5 @@
 -- One more symbol of a word that is read from a bank.
-use Rattle.std.proofs.Common.{◌≡◌, ℕ, zero, suc, ◌+◌, ◌*◌, ◌%◌, ◌^◌, ◌<◌, ◌≤◌, Bool, true, false, cond, [], ◌∷◌, length, get_or, IfSome, Some, None, Ok, Err, Option, Result, refl, ap, ◌∙◌, subst, arith, pow-add}
+use Rattle.std.proofs.Common.{◌≡◌, ℕ, zero, suc, ◌+◌, ◌*◌, ◌%◌, ◌^◌, ◌<◌, ◌≤◌, Bool, true, false, List, [], ◌∷◌, length, get_or, IfSome, Some, None, Ok, Err, Option, Result, refl, ap, ◌∙◌, subst, arith, pow-add}
 use Prim.Native.String.{String}
 use Rattle.std.proofs.lemmas.Nat.{mul-le}
 use Rattle.std.proofs.lemmas.Bool.Decides.{nat_tests}
@@ -11,7 +11,7 @@ use Rattle.transfer.proofs.Movement.{count}
 
 -- a symbol that is read is below 64
 pub read_below : (m : Meaning) → Sound m → (s : ℕ) → Ok s ≡ read_answer m → s < 64
-read_below m h s e = let u = h.cells_small m.head in grind (arith, nat_tests)
+read_below m h s e = grind (arith, nat_tests, h.cells_small m.head)
 
 pub symbol_below : (b : Devices) → Whole b → (n s : ℕ) → Ok s ≡ bank_answer read_answer b n → s < 64
 symbol_below b w n s = at (get_or b n None) (w.each_sound n)
@@ -39,9 +39,8 @@ packed_none (suc k) = refl
 
 -- one symbol more of k
 module _ (ends : Bool) (d after : Option Meaning) (ed : after ≡ after_of read_after d) (whole : Run) (k j w : ℕ) (ek : k ≡ suc j) (g : Going whole (gather ends k d) k w) where
-  first : {r : Result ℕ String} → r ≡ answer_of read_answer d → gather ends k d ≡ go_on ends r after (gather ends j after)
-  unfolding gather
-  first e = rw (ek, ed, ← e) refl
+  abbrev rest : Run
+  rest = gather ends j after
 
   module _ (s : ℕ) (answer : Ok s ≡ answer_of read_answer d) (small : s < 64) where
     -- the code shifts in 64 bits, and nothing is lost
@@ -51,37 +50,48 @@ module _ (ends : Bool) (d after : Option Meaning) (ed : after ≡ after_of read_
     shifted : s * 2 ^ (6 * j) % 2 ^ 64 ≡ s * 2 ^ (6 * j)
     shifted = omega (arith, weight j s small, ap (λ i. 2 ^ (6 * i)) ek, g.room)
 
-    -- by whether the symbol ends the movement
-    abbrev run : (t : Bool) → Run
-    run t = cond t (record { symbols = s ∷ []; stop = message_end; device = after }) (behind s (gather ends j after))
+    next : gather ends k d ≡ go_on ends (Ok s) after rest
+    unfolding gather
+    next = rw (ek, ed, ← answer) refl
 
-    by_end : {t : Bool} → ending ends s ≡ t → gather ends k d ≡ run t
-    by_end e = first answer ∙ ap run e
+    word : (x : Run) → gather ends k d ≡ x → w + packed (suc j) x.symbols ≡ packed 8 whole.symbols
+    word x e = grind (arith, ek, g.word)
 
-    word_by : (x : Run) → gather ends k d ≡ x → w + packed (suc j) x.symbols ≡ packed 8 whole.symbols
-    word_by x e = subst (λ (p : ℕ × Run). w + packed p.0 p.1.symbols ≡ packed 8 whole.symbols) (λ i. (ek i, e i)) g.word
+    -- and is not the last
+    module _ (on : ending ends s ≡ false) where
+      on_run : gather ends k d ≡ behind s rest
+      on_run = grind (arith, nat_tests, next)
 
-    pub goes_on : ending ends s ≡ false → Going whole (gather ends j after) j (w + s * 2 ^ (6 * j) % 2 ^ 64)
-    unfolding packed
-    goes_on e = record { word = omega (arith, shifted, word_by (run false) (by_end e)); room = fits }
+      pub goes_on : Going whole rest j (w + s * 2 ^ (6 * j) % 2 ^ 64)
+      unfolding packed
+      goes_on = record { word = omega (arith, shifted, word (behind s rest) on_run); room = fits }
 
-    pub one_more : ending ends s ≡ false → count (gather ends k d) ≡ record { moved = 1 + length (gather ends j after).symbols; stop = (gather ends j after).stop; device = (gather ends j after).device }
-    one_more e = ap count (by_end e) ∙ ap (λ i. record { moved = i; stop = (gather ends j after).stop; device = (gather ends j after).device }) (let e : suc (length (gather ends j after).symbols) ≡ 1 + length (gather ends j after).symbols = omega arith in e)
+      pub one_more : count (gather ends k d) ≡ record { moved = 1 + length rest.symbols; stop = rest.stop; device = rest.device }
+      one_more = grind (arith, on_run)
 
-    pub ends_here : ending ends s ≡ true → w + s * 2 ^ (6 * j) % 2 ^ 64 ≡ packed 8 whole.symbols
-    unfolding packed
-    ends_here e = omega (arith, shifted, word_by (run true) (by_end e), packed_none j)
+    -- or is
+    module _ (off : ending ends s ≡ true) where
+      off_run : gather ends k d ≡ record { symbols = s ∷ []; stop = message_end; device = after }
+      off_run = grind (arith, nat_tests, next)
 
-    pub one_last : ending ends s ≡ true → count (gather ends k d) ≡ record { moved = 1; stop = message_end; device = after }
-    one_last e = ap count (by_end e)
+      pub ends_here : w + s * 2 ^ (6 * j) % 2 ^ 64 ≡ packed 8 whole.symbols
+      unfolding packed
+      ends_here = omega (arith, shifted, word _ off_run, packed_none j)
+
+      pub one_last : count (gather ends k d) ≡ record { moved = 1; stop = message_end; device = after }
+      one_last = ap count off_run
 
   -- or a refusal
   module _ (e : String) (answer : Err e ≡ answer_of read_answer d) where
+    none_run : gather ends k d ≡ record { symbols = []; stop = refused e; device = after }
+    unfolding gather
+    none_run = rw (ek, ed, ← answer) refl
+
     pub none_more : count (gather ends k d) ≡ record { moved = 0; stop = refused e; device = after }
-    none_more = ap count (first answer)
+    none_more = ap count none_run
 
     pub ended : w ≡ packed 8 whole.symbols
-    ended = let last = subst (λ r. Going whole r k w) (first answer) g in omega (arith, last.word, packed_none k)
+    ended = grind (arith, none_run, g.word, packed_none k)
 
 -- or the word is full
 pub full : (ends : Bool) (d : Option Meaning) (whole : Run) (k w : ℕ) → k ≡ 0 → Going whole (gather ends k d) k w → w ≡ packed 8 whole.symbols

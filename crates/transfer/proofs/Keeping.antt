@@ -2,6 +2,7 @@
 use Rattle.std.proofs.Common.{◌≡◌, ℕ, ◌+◌, ◌-◌, ◌*◌, ◌%◌, ◌^◌, ◌<◌, ◌≤◌, false, cond, ◌⊎◌, List, [], ◌∷◌, ◌++◌, length, get_or, set, IfSome, Some, Option, sym, refl, ap, ◌∙◌, subst, ap₂, inl, inr, arith}
 use Rattle.std.proofs.lemmas.List.{append-nil, get_or-set_same}
 use Rattle.std.proofs.lemmas.Bool.{cases_lt, lt-ltb}
+use Rattle.std.proofs.lemmas.Bool.Decides.{nat_tests}
 use Rattle.device.specs.Meaning.{Meaning, Sound, moved, seek_after}
 use Rattle.transfer.specs.declared.moves.Transfer.{Transfer}
 use Rattle.transfer.specs.declared.moves.Transfer.TheVariants.{Read, Write, Seek}
@@ -24,13 +25,7 @@ like_same c m r = record { ready = r; long = refl; same = λ k lo hi. refl }
 
 -- a cell of the eight is none of those that are written
 apart : (c head moved : ℕ) → Passes c head moved → (k : ℕ) → c ≤ k → k < c + 8 → (k < head) ⊎ (head + moved ≤ k)
-apart c head moved passes k lo hi = elim (cases_lt k head) [
-  | inl l ↦ inl l
-  | inr g ↦ elim (cases_lt k (head + moved)) [
-    | inl l ↦ elim (passes k g l) [ inl x ↦ absurd (omega arith) | inr x ↦ absurd (omega arith) ]
-    | inr h ↦ inr h
-  ]
-]
+apart c head moved passes k lo hi = grind (arith, passes k)
 
 -- one move that spares them
 module _ (c i n : ℕ) (area : List ℕ) (m : Meaning) (r : Ready m) where
@@ -61,7 +56,7 @@ kept c (x ∷ xs) m r spared =
 
 -- one word lies at an address of the area
 one_word : (area : List ℕ) (a : ℕ) → a < length area → span area a a ≡ 1
-one_word area a h = ap (λ t. cond t (a + 1 - a) 0) (lt-ltb a (length area) h) ∙ (let e : a + 1 - a ≡ 1 = omega arith in e)
+one_word area a h = grind (arith, nat_tests)
 
 spread_one : (area : List ℕ) (a : ℕ) → spread 1 a area ≡ unpacked 8 (get_or area a 0)
 unfolding spread

@@ -39,8 +39,7 @@ joined r x = cond (is_all r.stop) (record { moved = r.moved + x.moved; stop = x.
 module _ (ends : Bool) where
   join_on : (ys : List ℕ) (s : ℕ) (r : Result (Unit {0}) String) (d : Option Meaning) (x y : Sent) → x ≡ joined y (send ends ys y.device) →
       send_on ends s r d x ≡ joined (send_on ends s r d y) (send ends ys (send_on ends s r d y).device)
-  join_on ys s (Err e) d x y h = refl
-  join_on ys s (Ok u) d x y h = grind (arith, nat_tests, h)
+  join_on ys s r d x y h = grind (arith, nat_tests, h)
 
   send_append : (xs ys : List ℕ) (d : Option Meaning) → send ends (xs ++ ys) d ≡ joined (send ends xs d) (send ends ys (send ends xs d).device)
   unfolding send
@@ -54,14 +53,10 @@ module _ (ends : Bool) where
   send_nothing (s ∷ ss) d e = ap (λ (x : Option Meaning). (send ends (s ∷ ss) x).device) e
 
   -- at most as many as were given
-  most_on : (k s : ℕ) (r : Result (Unit {0}) String) (d : Option Meaning) (x : Sent) → x.moved ≤ k → (send_on ends s r d x).moved ≤ suc k
-  most_on k s (Err e) d x h = omega arith
-  most_on k s (Ok u) d x h = grind (arith, nat_tests)
-
   pub most : (ss : List ℕ) (d : Option Meaning) → (send ends ss d).moved ≤ length ss
   unfolding send
   most [] d = omega arith
-  most (s ∷ ss) d = most_on (length ss) s (answer_of write_answer d) (after_of (λ m. write_after m s) d) _ (most ss (after_of (λ m. write_after m s) d))
+  most (s ∷ ss) d = grind (arith, nat_tests, most ss (after_of (λ m. write_after m s) d))
 
 pub length_unpacked : (k w : ℕ) → length (unpacked k w) ≡ k
 unfolding unpacked
@@ -71,7 +66,7 @@ length_unpacked (suc k) w = ap suc (length_unpacked k w)
 pub length_spread : (n a : ℕ) (area : List ℕ) → length (spread n a area) ≡ 8 * n
 unfolding spread
 length_spread zero a area = refl
-length_spread (suc n) a area = length-append (unpacked 8 (get_or area a 0)) (spread n (a + 1) area) ∙ (let p = length_unpacked 8 (get_or area a 0) in let q = length_spread n (a + 1) area in omega arith)
+length_spread (suc n) a area = grind (arith, length-append, length_unpacked, length_spread n (a + 1) area)
 
 -- one word more of m
 module _ (ends : Bool) (d after : Option Meaning) (area : List ℕ) (a m m' : ℕ) (left : m ≡ suc m') where

@@ -2,6 +2,7 @@
 use Rattle.std.proofs.Common.{◌≡◌, ℕ, zero, suc, ◌+◌, ◌*◌, ◌^◌, ◌≤◌, Bool, true, false, cond, List, [], ◌∷◌, ◌++◌, length, get_or, set, Some, None, Ok, Err, Option, Result, sym, refl, ap, ◌∙◌, ap₂, suc-add, zero-add, arith}
 use Prim.Native.String.{String}
 use Rattle.std.proofs.lemmas.List.{length-append, drop_at, drop_all, set-get_or}
+use Rattle.std.proofs.lemmas.Bool.Decides.{nat_tests}
 use Rattle.device.specs.Meaning.{Meaning, read_answer, read_after}
 use Rattle.device.specs.Bank.{answer_of, after_of}
 use Rattle.transfer.proofs.Movement.{count}
@@ -23,24 +24,10 @@ stops_early (Refused e) = refl
 abbrev pub joined : Run → Run → Run
 joined r x = cond (is_all r.stop) (record { symbols = r.symbols ++ x.symbols; stop = x.stop; device = x.device }) r
 
-joined_behind : (s : ℕ) (r x : Run) → behind s (joined r x) ≡ joined (behind s r) x
-joined_behind s r x = at (is_all r.stop)
-  where
-    at : (t : Bool) → behind s (cond t (record { symbols = r.symbols ++ x.symbols; stop = x.stop; device = x.device }) r)
-        ≡ cond t (record { symbols = s ∷ (r.symbols ++ x.symbols); stop = x.stop; device = x.device }) (behind s r)
-    at true = refl
-    at false = refl
-
 module _ (ends : Bool) where
   join_on : (m : ℕ) (r : Result ℕ String) (d : Option Meaning) (x y : Run) → x ≡ joined y (gather ends m y.device) →
       go_on ends r d x ≡ joined (go_on ends r d y) (gather ends m (go_on ends r d y).device)
-  join_on m (Err e) d x y h = refl
-  join_on m (Ok s) d x y h = at (ending ends s)
-    where
-      at : (t : Bool) → cond t (record { symbols = s ∷ []; stop = message_end; device = d }) (behind s x)
-          ≡ joined (cond t (record { symbols = s ∷ []; stop = message_end; device = d }) (behind s y)) (gather ends m (cond t (record { symbols = s ∷ []; stop = message_end; device = d }) (behind s y)).device)
-      at true = refl
-      at false = ap (behind s) h ∙ joined_behind s y (gather ends m y.device)
+  join_on m r d x y h = grind (arith, nat_tests, h)
 
   -- k symbols and m more
   pub gather_add : (k m : ℕ) (d : Option Meaning) → gather ends (k + m) d ≡ joined (gather ends k d) (gather ends m (gather ends k d).device)
@@ -55,30 +42,23 @@ module _ (ends : Bool) where
   gather_nothing (suc k) d e = ap (λ (x : Option Meaning). (gather ends (suc k) x).device) e
 
   -- at most k symbols, and k where all came
-  pub record Counted (k : ℕ) (r : Run) : Type 0 where
-    pub most : length r.symbols ≤ k
-    pub full : is_all r.stop ≡ true → length r.symbols ≡ k
-
-  count_on : (k : ℕ) (r : Result ℕ String) (d : Option Meaning) (x : Run) → Counted k x → Counted (suc k) (go_on ends r d x)
-  count_on k (Err e) d x h = record { most = omega arith; full = λ e. let z : ◌≡◌ {A = ℕ} 0 1 = cc in absurd (omega arith) }
-  count_on k (Ok s) d x h = at (ending ends s)
-    where
-      at : (t : Bool) → Counted (suc k) (cond t (record { symbols = s ∷ []; stop = message_end; device = d }) (behind s x))
-      at true = record { most = omega arith; full = λ e. let z : ◌≡◌ {A = ℕ} 0 1 = cc in absurd (omega arith) }
-      at false = record { most = let m = h.most in omega arith; full = λ e. ap suc (h.full e) }
-
-  pub counted : (k : ℕ) (d : Option Meaning) → Counted k (gather ends k d)
+  pub most : (k : ℕ) (d : Option Meaning) → length (gather ends k d).symbols ≤ k
   unfolding gather
-  counted zero d = record { most = omega arith; full = λ e. refl }
-  counted (suc k) d = count_on k (answer_of read_answer d) (after_of read_after d) _ (counted k (after_of read_after d))
+  most zero d = omega arith
+  most (suc k) d = grind (arith, nat_tests, most k (after_of read_after d))
+
+  pub all_came : (k : ℕ) (d : Option Meaning) → is_all (gather ends k d).stop ≡ true → length (gather ends k d).symbols ≡ k
+  unfolding gather
+  all_came zero d h = refl
+  all_came (suc k) d h = grind (arith, nat_tests, all_came k (after_of read_after d))
 
 packed_append : (k : ℕ) (xs ys : List ℕ) → length xs ≡ k → packed k (xs ++ ys) ≡ packed k xs
 unfolding packed
 packed_append zero xs ys e = refl
-packed_append (suc k) [] ys e = let z : ◌≡◌ {A = ℕ} 0 1 = omega arith in absurd (omega arith)
-packed_append (suc k) (x ∷ xs) ys e = ap (λ w. x * 2 ^ (6 * k) + w) (packed_append k xs ys (omega arith))
+packed_append (suc k) [] ys e = absurd (omega arith)
+packed_append (suc k) (x ∷ xs) ys e = grind (arith, packed_append k xs ys)
 
-pub stored_none : (n a : ℕ) (area : List ℕ) → stored n a [] area ≡ area
+stored_none : (n a : ℕ) (area : List ℕ) → stored n a [] area ≡ area
 unfolding stored
 stored_none zero a area = refl
 stored_none (suc n) a area = refl
@@ -117,7 +97,7 @@ module _ (ends : Bool) (d after : Option Meaning) (ed : after ≡ (gather ends 8
       pub words_more : stored m a (gather ends (8 * m) d).symbols area ≡ stored m' (a + 1) rest.symbols (set area a cell)
       words_more =
           ap₂ (λ (i : ℕ) (r : Run). stored i a r.symbols area) left (split true (ap is_all (sym full)))
-          ∙ word_and m' a area this.symbols rest.symbols ((counted ends 8 d).full (ap is_all (sym full)))
+          ∙ word_and m' a area this.symbols rest.symbols (all_came ends 8 d (ap is_all (sym full)))
           ∙ ap (λ w. stored m' (a + 1) rest.symbols (set area a w)) (sym ec)
 
       pub count_more : count (gather ends (8 * m) d) ≡ record { moved = length this.symbols + length rest.symbols; stop = rest.stop; device = rest.device }
@@ -133,7 +113,7 @@ module _ (ends : Bool) (d after : Option Meaning) (ed : after ≡ (gather ends 8
       pub words_last : stored m a (gather ends (8 * m) d).symbols area ≡ set area a cell
       words_last =
           ap₂ (λ (i : ℕ) (r : Run). stored i a r.symbols area) left (split false ended)
-          ∙ word_alone m' a area this.symbols (counted ends 8 d).most
+          ∙ word_alone m' a area this.symbols (most ends 8 d)
           ∙ ap (set area a) (sym ec)
 
       pub count_last : count (gather ends (8 * m) d) ≡ count this

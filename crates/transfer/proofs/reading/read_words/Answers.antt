@@ -3,7 +3,7 @@ use Rattle.device.specs.Bank.{standing}
 use Rattle.device.proofs.Standing.{standing_set}
 use Rattle.transfer.specs.Symbols.{gather, stored, stop_of, why}
 use Rattle.transfer.proofs.Movement.{SoFar, begun, more, last, done, count}
-use Rattle.transfer.proofs.Words.{counted, gather_nothing, words_more, count_more, words_last, count_last, nothing_left}
+use Rattle.transfer.proofs.Words.{most, gather_nothing, words_more, count_more, words_last, count_last, nothing_left}
 use Rattle.transfer.proofs.Gathering as word
 use Rattle.transfer.proofs.reading.read_words.Given as given
 use Rattle.transfer.proofs.reading.read_words.Goals as goal
@@ -31,8 +31,8 @@ module _ (g : given.Over) (c : After-from-symbols g) where
 
 pub overflow_add-symbols : goal.overflow_add-symbols
 overflow_add-symbols g c =
-    let most = (counted c.args.ends (8 * length c.args.area.now) (standing (g.B.Bank.devices c.args.bank.now) c.args.n)).most in
-    let eight = (counted c.args.ends 8 (standing (g.B.Bank.devices c.loop-cell.bank) c.args.n)).most in
+    let all = most c.args.ends (8 * length c.args.area.now) (standing (g.B.Bank.devices c.args.bank.now) c.args.n) in
+    let eight = most c.args.ends 8 (standing (g.B.Bank.devices c.loop-cell.bank) c.args.n) in
     let before = c.loop-cell.invariant.1.moved in
     omega (arith, moved g c)
 

@@ -1,9 +1,8 @@
 -- A move changes only words that it names, and leaves them below 2 ^ 48.
-use Rattle.std.proofs.Common.{◌≡◌, ℕ, zero, suc, ◌+◌, ◌-◌, ◌*◌, ◌^◌, ◌<◌, ◌≤◌, Bool, true, false, cond, ltb, ◌⊎◌, List, [], ◌∷◌, length, get_or, drop, set, IfSome, Some, None, Ok, Err, Option, Result, refl, ap, ◌∙◌, inl, inr, arith, lit<}
+use Rattle.std.proofs.Common.{◌≡◌, ℕ, zero, suc, ◌+◌, ◌*◌, ◌^◌, ◌<◌, ◌≤◌, Bool, ◌⊎◌, List, [], ◌∷◌, get_or, drop, set, IfSome, Some, None, Ok, Option, Result, refl, inr, arith, lit<}
 use Prim.Native.String.{String}
 use Rattle.std.proofs.lemmas.Nat.{pow_pos}
-use Rattle.std.proofs.lemmas.List.{get_or-drop, get_or-set_same, get_or-set_other, set_past}
-use Rattle.std.proofs.lemmas.Bool.{cases_eq, cases_lt, cond_both}
+use Rattle.std.proofs.lemmas.List.{get_or-drop}
 use Rattle.std.proofs.lemmas.Bool.Decides.{nat_tests}
 use Rattle.std.proofs.lemmas.Grind.{common_steps}
 use Rattle.device.specs.Meaning.{Meaning, Below, Sound, read_answer, read_after}
@@ -11,8 +10,7 @@ use Rattle.device.specs.Bank.{answer_of, after_of}
 use Rattle.transfer.specs.declared.moves.Transfer.{Transfer}
 use Rattle.transfer.specs.declared.moves.Transfer.TheVariants.{Read, Write, Seek}
 use Rattle.transfer.specs.declared.moves.Move.{Move}
-use Rattle.transfer.specs.Symbols.{Run, gather, go_on, behind, ending, packed, stored}
-use Rattle.transfer.specs.Symbols.Stop.{message_end}
+use Rattle.transfer.specs.Symbols.{Run, gather, go_on, packed, stored}
 use Rattle.transfer.specs.Moves.{Confined, span, effect_of, effect}
 use Rattle.transfer.proofs.Gathering.{read_below, weight}
 

@@ -1,12 +1,12 @@
 -- What reading, seeking and writing leave of a drum, and what stands in its cells.
-use Rattle.std.proofs.Common.{◌≡◌, ℕ, zero, suc, ◌+◌, ◌*◌, ◌/◌, ◌%◌, ◌^◌, ◌<◌, ◌≤◌, Bool, true, false, cond, ◌⊎◌, List, [], ◌∷◌, length, get_or, set, Some, Ok, Err, Option, Result, sym, refl, ap, ◌∙◌, subst, ap₂, inl, inr, mod-lt, mod-eq_of_lt, arith, lit<}
+use Rattle.std.proofs.Common.{◌≡◌, ℕ, zero, suc, ◌+◌, ◌*◌, ◌/◌, ◌%◌, ◌^◌, ◌<◌, ◌≤◌, Bool, true, false, cond, ◌⊎◌, List, [], ◌∷◌, length, get_or, set, Some, Ok, Err, Option, Result, sym, refl, ap, ◌∙◌, subst, inl, inr, mod-lt, mod-eq_of_lt, arith, lit<}
 use Prim.Native.String.{String}
 use lib.Pow.{mod-pow-add}
 use Rattle.std.proofs.lemmas.List.{length-set, get_or-set_same, get_or-set_other}
 use Rattle.std.proofs.lemmas.Bool.{cases_lt, cond_both}
 use Rattle.std.proofs.lemmas.Bool.Decides.{nat_tests}
 use Rattle.device.specs.Meaning.{Meaning, moved, read_answer, read_after, write_answer, write_after, seek_after, takes}
-use Rattle.transfer.specs.Symbols.{Run, Sent, gather, go_on, behind, send, one_more, ending, packed, unpacked}
+use Rattle.transfer.specs.Symbols.{Run, Sent, gather, go_on, send, one_more, ending, packed, unpacked}
 use Rattle.transfer.specs.Symbols.Stop.{message_end, refused}
 use Rattle.transfer.specs.Keeping.{Drum}
 

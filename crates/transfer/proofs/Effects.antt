@@ -1,15 +1,12 @@
 -- What moves leave as it was, and moves one after another.
-use Rattle.std.proofs.Common.{◌≡◌, ℕ, zero, suc, ◌+◌, ◌-◌, ◌*◌, ◌<◌, ◌≤◌, cond, List, [], ◌∷◌, ◌++◌, length, get_or, drop, set, None, Option, sym, refl, ap, ◌∙◌, ap₂, arith}
+use Rattle.std.proofs.Common.{◌≡◌, ℕ, suc, ◌+◌, ◌<◌, List, [], ◌∷◌, ◌++◌, length, get_or, drop, set, None, Option, sym, refl, ap, ◌∙◌, ap₂, arith}
 use Rattle.std.proofs.lemmas.List.{length-set, drop_more}
-use Rattle.std.proofs.lemmas.Bool.{le-ltb}
-use Rattle.device.specs.Meaning.{Meaning, seek_after}
-use Rattle.device.specs.Bank.{Devices, after_of}
-use Rattle.transfer.specs.declared.moves.Transfer.{Transfer}
-use Rattle.transfer.specs.declared.moves.Transfer.TheVariants.{Read, Write, Seek}
+use Rattle.device.specs.Meaning.{Meaning}
+use Rattle.device.specs.Bank.{Devices}
 use Rattle.transfer.specs.declared.moves.Move.{Move}
-use Rattle.transfer.specs.Symbols.{gather, send, stored, spread}
+use Rattle.transfer.specs.Symbols.{stored}
 use Rattle.device.specs.Bank.{standing}
-use Rattle.transfer.specs.Moves.{Left, span, read_effect, write_effect, effect_of, effect, in_turn}
+use Rattle.transfer.specs.Moves.{Left, effect, in_turn}
 use Rattle.device.proofs.Standing.{Beside, standing_set, beside_set}
 use Rattle.transfer.proofs.Words.{gather_nothing}
 use Rattle.transfer.proofs.Sending.{send_nothing}

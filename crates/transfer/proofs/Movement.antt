@@ -1,8 +1,8 @@
 -- A movement of symbols on buffer n of a bank, part by part.
-use Rattle.std.proofs.Common.{◌≡◌, ℕ, ◌+◌, length, set, Option, sym, refl, ap, ◌∙◌, subst, arith}
+use Rattle.std.proofs.Common.{◌≡◌, ℕ, ◌+◌, length, set, Option, sym, ap, ◌∙◌, subst, arith}
 use Rattle.device.specs.Meaning.{Meaning}
 use Rattle.device.specs.Bank.{Devices, standing}
-use Rattle.device.proofs.Standing.{Beside, beside_none, beside_set, beside_all}
+use Rattle.device.proofs.Standing.{Beside, beside_set, beside_all}
 use Rattle.transfer.specs.Symbols.{Stop, Run, Sent}
 use Rattle.transfer.specs.Symbols.Stop.{all}
 
@@ -42,6 +42,3 @@ module _ (n : ℕ) (b₀ : Devices) (whole : Sent) where
     done em e =
         let now = subst (λ y. SoFar symbols y b) e s in
         record { moved = omega (arith, now.moved); stop = sym now.stop; after = beside_all n b₀ b whole.device now.others (sym now.device) }
-
-  pub begun : SoFar 0 whole b₀
-  begun = record { moved = omega arith; stop = refl; device = refl; others = beside_none n b₀ }

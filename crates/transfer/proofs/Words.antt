@@ -1,12 +1,12 @@
 -- One word more of a transfer: a run of symbols by eights.
-use Rattle.std.proofs.Common.{◌≡◌, ℕ, zero, suc, ◌+◌, ◌*◌, ◌^◌, ◌≤◌, Bool, true, false, cond, List, [], ◌∷◌, ◌++◌, length, get_or, set, Some, None, Ok, Err, Option, Result, sym, refl, ap, ◌∙◌, ap₂, suc-add, zero-add, arith}
+use Rattle.std.proofs.Common.{◌≡◌, ℕ, zero, suc, ◌+◌, ◌*◌, ◌≤◌, Bool, true, false, cond, List, [], ◌∷◌, ◌++◌, length, get_or, set, Some, None, Option, Result, sym, refl, ap, ◌∙◌, ap₂, suc-add, zero-add, arith}
 use Prim.Native.String.{String}
 use Rattle.std.proofs.lemmas.List.{length-append, drop_at, drop_all, set-get_or}
 use Rattle.std.proofs.lemmas.Bool.Decides.{nat_tests}
 use Rattle.device.specs.Meaning.{Meaning, read_answer, read_after}
 use Rattle.device.specs.Bank.{answer_of, after_of}
 use Rattle.transfer.proofs.Movement.{count}
-use Rattle.transfer.specs.Symbols.{Stop, Run, gather, go_on, behind, ending, packed, filled, stored, stop_of}
+use Rattle.transfer.specs.Symbols.{Stop, Run, gather, go_on, packed, filled, stored, stop_of}
 use Rattle.transfer.specs.Symbols.Stop.{all, message_end, refused}
 use Rattle.transfer.specs.declared.part.Stop.{Stop as Stopped}
 use Rattle.transfer.specs.declared.part.Stop.TheVariants.{EndMessage, Refused}

@@ -1,16 +1,13 @@
-use Rattle.std.proofs.Common.{◌≡◌, suc, ◌-◌, ◌+◌, ◌<◌, set, true, false, Ok, sym, refl, ap, ◌∙◌, arith, lit≤}
+use Rattle.std.proofs.Common.{◌≡◌, suc, ◌-◌, ◌+◌, ◌<◌, set, true, false, Ok, sym, refl, ap, ◌∙◌, arith}
 use Rattle.device.specs.Meaning.{read_answer, read_after}
 use Rattle.device.specs.Bank.{standing, after_of, bank_answer}
 use Rattle.device.proofs.Standing.{standing_after}
 use Rattle.transfer.specs.Symbols.{ending}
-use Rattle.transfer.proofs.Movement.{begun, more, last, done}
+use Rattle.transfer.proofs.Movement.{more, last, done}
 use Rattle.transfer.proofs.Gathering.{symbol_below, fits, goes_on, one_more, ends_here, one_last, none_more, ended, full, nothing_left}
 use Rattle.transfer.proofs.reading.read_word.Given as given
 use Rattle.transfer.proofs.reading.read_word.Goals as goal
 use Rattle.transfer.proofs.reading.read_word.Goals.{After-from}
-
-pub loop-k-init : goal.loop-k-init
-loop-k-init g c = (record { word = omega arith; room = lit≤ tt }, begun c.args.n _ _)
 
 -- a symbol was read
 module _ (g : given.Over) (c : After-from g) where

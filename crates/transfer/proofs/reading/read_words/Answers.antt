@@ -1,22 +1,13 @@
-use Rattle.std.proofs.Common.{◌≡◌, ℕ, suc, ◌+◌, ◌-◌, ◌*◌, length, sym, refl, ap, ◌∙◌, subst, arith}
+use Rattle.std.proofs.Common.{◌≡◌, suc, ◌+◌, ◌-◌, ◌*◌, length, sym, refl, ap, ◌∙◌, arith}
 use Rattle.device.specs.Bank.{standing}
 use Rattle.device.proofs.Standing.{standing_set}
-use Rattle.transfer.specs.Symbols.{gather, stored, stop_of, why}
-use Rattle.transfer.proofs.Movement.{SoFar, begun, more, last, done, count}
+use Rattle.transfer.specs.Symbols.{gather, stop_of, why}
+use Rattle.transfer.proofs.Movement.{more, last, done}
 use Rattle.transfer.proofs.Words.{most, gather_nothing, words_more, count_more, words_last, count_last, nothing_left}
 use Rattle.transfer.proofs.Gathering as word
 use Rattle.transfer.proofs.reading.read_words.Given as given
 use Rattle.transfer.proofs.reading.read_words.Goals as goal
 use Rattle.transfer.proofs.reading.read_words.Goals.{After-from-symbols}
-
-pub loop-cell-init : goal.loop-cell-init
-loop-cell-init g c =
-    let area = c.args.area.now in
-    let b = g.B.Bank.devices c.args.bank.now in
-    let whole = λ (n : ℕ). gather c.args.ends (8 * n) (standing b c.args.n) in
-    let all : length area ≡ length area - 0 = omega arith in
-    subst (λ n. (stored n 0 (whole n).symbols area ≡ stored (length area) 0 (whole (length area)).symbols area) × SoFar c.args.n b (count (whole (length area))) 0 (count (whole n)) b) all
-    (refl, begun c.args.n b _)
 
 -- a word was read
 module _ (g : given.Over) (c : After-from-symbols g) where

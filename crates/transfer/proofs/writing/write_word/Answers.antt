@@ -1,11 +1,8 @@
 use Rattle.std.proofs.Common.{◌≡◌, suc, ◌+◌, ◌-◌, set, sym, refl, ap, ◌∙◌, arith}
 use Rattle.device.proofs.Standing.{standing_after}
-use Rattle.transfer.proofs.Movement.{begun, more, last, done}
+use Rattle.transfer.proofs.Movement.{more, last, done}
 use Rattle.transfer.proofs.Sending.{symbol_more, symbol_last, symbol_refused, no_symbol}
 use Rattle.transfer.proofs.writing.write_word.Goals as goal
-
-pub loop-k-init : goal.loop-k-init
-loop-k-init g c = begun c.args.n _ _
 
 pub loop-k-preserved : goal.loop-k-preserved
 loop-k-preserved g c =

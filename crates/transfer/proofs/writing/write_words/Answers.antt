@@ -1,20 +1,12 @@
-use Rattle.std.proofs.Common.{◌≡◌, suc, ◌+◌, ◌-◌, length, get_or, sym, refl, ap, ◌∙◌, subst, arith}
+use Rattle.std.proofs.Common.{◌≡◌, suc, ◌+◌, ◌-◌, length, get_or, sym, refl, ap, ◌∙◌, arith}
 use Rattle.device.specs.Bank.{standing}
 use Rattle.device.proofs.Standing.{standing_set}
 use Rattle.transfer.specs.Symbols.{Sent, send, spread, unpacked, stop_of, why}
-use Rattle.transfer.proofs.Movement.{SoFar, begun, more, last, done}
+use Rattle.transfer.proofs.Movement.{more, last, done}
 use Rattle.transfer.proofs.Sending.{send_nothing, most, length_unpacked, length_spread, word_more, word_last, no_word}
 use Rattle.transfer.proofs.writing.write_words.Given as given
 use Rattle.transfer.proofs.writing.write_words.Goals as goal
 use Rattle.transfer.proofs.writing.write_words.Goals.{After-from-symbols}
-
-pub loop-word-init : goal.loop-word-init
-loop-word-init g c =
-    let area = c.args.area.now in
-    let b = g.B.Bank.devices c.args.bank.now in
-    let whole = send c.args.ends (spread (length area) 0 area) (standing b c.args.n) in
-    let all : length area ≡ length area - 0 = omega arith in
-    subst (λ n. SoFar c.args.n b whole 0 (send c.args.ends (spread n 0 area) (standing b c.args.n)) b) all (begun c.args.n b whole)
 
 -- a word was written
 module _ (g : given.Over) (c : After-from-symbols g) where

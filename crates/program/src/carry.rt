@@ -9,16 +9,17 @@ ghost use Rattle.program.specs.Kept.{Kept};
 ghost use Rattle.program.specs.Told.{told};
 ghost use Rattle.device.specs.Bank.{standing};
 
-use crate::doing::{do_indexed, do_out, do_register, do_store};
-use crate::moving::{do_busy, do_move, kind_of};
+use crate::moving::{do_move, kind_of};
 use crate::outcome::Outcome;
 use buffers::table::Buffers;
 use device::bank::Bank;
 use order::code::Order;
 use outlook::next::Next;
+use register_orders::{carry_out, out};
 use registers::registers::Registers;
+use store_orders::{on_indexed, on_store};
 
-// The order that the outlook gave, carried out for the program in a slot.
+// The order that the outlook gave, carried out for the program in a slot. All but a move are done from the place of the next one.
 pub fn carry_next<B: Bank>(
     next: Next,
     slot: u8,
@@ -31,29 +32,37 @@ pub fn carry_next<B: Bank>(
     ensures own { (ready : Bool) → carried next (own_of slot regs.old area.old ready (records buffers.old.table) (standing (B.devices bank.old))) ≡ (own_of slot regs.new area.new ready (records buffers.new.table) (standing (B.devices bank.new)), told result) }
     ensures kept { Kept slot (records buffers.old.table) (records buffers.new.table) (standing (B.devices bank.old)) (standing (B.devices bank.new)) }
 {
-    match next.order {
+    let Next { order, place } = next;
+    match order {
         Order::Register(o) => {
-            do_register(o, next.place, regs);
+            regs.go_to(place);
+            carry_out(o, regs);
             Outcome::Done(0)
         }
         Order::Store(o, q, e) => {
-            do_store(o, q, e, next.place, regs, area);
+            regs.go_to(place);
+            on_store(o, q, e, regs, area);
             Outcome::Done(0)
         }
         Order::Indexed(o, k, q) => {
-            do_indexed(o, k, q, next.place, regs, area);
+            regs.go_to(place);
+            on_indexed(o, k, q, regs, area);
             Outcome::Done(0)
         }
         Order::Transfer(o, q) => {
             let parts = regs.q_of(q);
             match kind_of(o) {
-                Some(kind) => { do_move(kind, parts, next.place, slot, regs, area, buffers, bank) }
+                Some(kind) => do_move(kind, parts, place, regs, area, buffers, bank),
                 None => {
-                    do_busy(parts, next.place, slot, regs, buffers);
+                    regs.go_to(place);
+                    regs.set_test(buffers.record(parts.c).work.is_busy());
                     Outcome::Done(0)
                 }
             }
         }
-        Order::Out => Outcome::Out(do_out(next.place, regs)),
+        Order::Out => {
+            regs.go_to(place);
+            Outcome::Out(out(regs))
+        }
     }
 }

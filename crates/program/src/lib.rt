@@ -3,6 +3,5 @@
 
 pub mod attempt;
 pub mod carry;
-mod doing;
 mod moving;
 pub mod outcome;

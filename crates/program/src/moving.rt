@@ -1,11 +1,10 @@
 // The transfer orders, between what a program owns and the devices on its buffers.
-ghost use Rattle.std.specs.Prelude.{◌≡◌, ◌<◌, ◌≤◌, Bool, true};
-ghost use Rattle.buffers.specs.Buffers.{records, holds, is_busy};
+ghost use Rattle.std.specs.Prelude.{◌≡◌, ℕ, ◌≤◌, Bool, true};
+ghost use Rattle.buffers.specs.Buffers.{records, holds};
 ghost use Rattle.outlook.specs.Own.{own_of};
-ghost use Rattle.program.specs.Effects.{kind_of, move_by, work_by, moved_by, asked};
+ghost use Rattle.program.specs.Effects.{kind_of, work_by, moved_by};
 ghost use Rattle.program.specs.Kept.{Kept};
 ghost use Rattle.program.specs.Told.{told};
-ghost use Rattle.registers.specs.Registers.{regs_of, with_place, with_test};
 ghost use Rattle.device.specs.Bank.{standing};
 
 use crate::outcome::Outcome;
@@ -41,21 +40,19 @@ fn work_by(kind: Transfer, q: Q) -> Work
     }
 }
 
-// Makes a move of the program in a slot, on a buffer that is its own.
+// Makes a move on the buffer that C names, for the program whose buffer it is.
 pub(crate) fn do_move<B: Bank>(
     kind: Transfer,
     q: Q,
     place: u16,
-    slot: u8,
     regs: &mut Registers,
     area: &mut [u64],
     buffers: &mut Buffers,
     bank: &mut B,
 ) -> Outcome
-    requires within { q.c ≤ 15 }
-    requires held { holds slot (records buffers.old.table q.c) ≡ true }
-    ensures own { (ready : Bool) → moved_by kind q place (own_of slot regs.old area.old ready (records buffers.old.table) (standing (B.devices bank.old))) ≡ (own_of slot regs.new area.new ready (records buffers.new.table) (standing (B.devices bank.new)), told result) }
-    ensures kept { Kept slot (records buffers.old.table) (records buffers.new.table) (standing (B.devices bank.old)) (standing (B.devices bank.new)) }
+    requires { q.c ≤ 15 }
+    ensures own { (slot : ℕ) (ready : Bool) → holds slot (records buffers.old.table q.c) ≡ true → moved_by kind q place (own_of slot regs.old area.old ready (records buffers.old.table) (standing (B.devices bank.old))) ≡ (own_of slot regs.new area.new ready (records buffers.new.table) (standing (B.devices bank.new)), told result) }
+    ensures kept { (slot : ℕ) → holds slot (records buffers.old.table q.c) ≡ true → Kept slot (records buffers.old.table) (records buffers.new.table) (standing (B.devices bank.old)) (standing (B.devices bank.new)) }
 {
     let n = q.c as u8;
     let x = Move {
@@ -72,14 +69,4 @@ pub(crate) fn do_move<B: Bank>(
         }
         Some(refusal) => Outcome::Refused(n, refusal, moved.symbols),
     }
-}
-
-// BUSY: T says whether a buffer of the program in a slot is busy.
-pub(crate) fn do_busy(q: Q, place: u16, slot: u8, regs: &mut Registers, buffers: &Buffers)
-    requires { holds slot (records buffers.now.table q.c) ≡ true }
-    ensures { regs_of regs.new ≡ with_test (is_busy (records buffers.now.table q.c).work) (with_place place (regs_of regs.old)) }
-{
-    let busy = buffers.record(q.c).work.is_busy();
-    regs.go_to(place);
-    regs.set_test(busy);
 }

@@ -3,7 +3,7 @@ use device::refusal::Refusal;
 use outlook::bound::Bound;
 use word::word::Word;
 
-#[derive(Clone, Copy)]
+#[derive(Clone, Copy, PartialEq, Eq, Debug)]
 pub enum Outcome {
     // it was done, and moved so many symbols
     Done(u32),

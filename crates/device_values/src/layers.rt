@@ -3,6 +3,7 @@ use device::code_changer::CodeChanger;
 use device::code_table::CodeTable;
 use device::device::Device;
 use device::ring_off::RingOff;
+use std::array;
 use units::drum::Drum;
 use units::reader::TapeReader;
 
@@ -27,11 +28,8 @@ pub(crate) fn run_ring_off(rt: &HostRuntime) -> anyhow::Result<()> {
 
 // The table turns each symbol s into 63 - s.
 pub(crate) fn run_changer(rt: &HostRuntime) -> anyhow::Result<()> {
-    let mut shown = [0u8; 64];
-    for s in 0..64u8 {
-        shown[s as usize] = 63 - s;
-    }
-    let mut drum = CodeChanger::new(CodeTable::new(shown)?, Drum::new());
+    let shown: [u8; 64] = array::from_fn(|symbol| 63 - symbol as u8);
+    let mut drum = CodeChanger::new(CodeTable::try_from(shown)?, Drum::new());
     let zero = drum.read();
     let write = drum.write(75);
     let back = drum.seek(1);
@@ -45,7 +43,7 @@ pub(crate) fn run_changer(rt: &HostRuntime) -> anyhow::Result<()> {
     println!(rt; "the drum below: seek {back:?}, read {hidden:?}")?;
     let mut reader = TapeReader::new(rt.alloc())?;
     reader.fill(&[33, 1])?;
-    let mut reader = CodeChanger::new(CodeTable::new(shown)?, reader);
+    let mut reader = CodeChanger::new(CodeTable::try_from(shown)?, reader);
     let sound = reader.read();
     let damaged = reader.read();
     let end = reader.read();

@@ -31,9 +31,9 @@ pub(crate) fn run_punch(rt: &HostRuntime) -> anyhow::Result<()> {
 
 // A punch on buffer 15 hides the drum that is plugged there below it.
 pub(crate) fn run_bank(rt: &HostRuntime) -> anyhow::Result<()> {
-    let below = Plugged::new(Drum::new(), BufferNumber::new(15)?, EmptyBank);
+    let below = Plugged::new(Drum::new(), BufferNumber::try_from(15)?, EmptyBank);
     let punch = Punch::new(rt.alloc())?;
-    let mut bank = Plugged::new(punch, BufferNumber::new(15)?, below);
+    let mut bank = Plugged::new(punch, BufferNumber::try_from(15)?, below);
     let write = bank.write(15, 7);
     let read = bank.read(15);
     let head = bank.head(15);
@@ -51,7 +51,7 @@ pub(crate) fn run_bank(rt: &HostRuntime) -> anyhow::Result<()> {
 
 // Buffer 16, 4097 frames, and a table that holds a symbol twice.
 pub(crate) fn run_input(rt: &HostRuntime) -> anyhow::Result<()> {
-    if let Err(refusal) = BufferNumber::new(16) {
+    if let Err(refusal) = BufferNumber::try_from(16) {
         print_refusal(rt, refusal)?;
     }
     let mut reader = TapeReader::new(rt.alloc())?;
@@ -60,7 +60,7 @@ pub(crate) fn run_input(rt: &HostRuntime) -> anyhow::Result<()> {
         print_refusal(rt, refusal)?;
     }
     reader.fill(&frames[0..4096])?;
-    if let Err(refusal) = CodeTable::new([0; 64]) {
+    if let Err(refusal) = CodeTable::try_from([0; 64]) {
         print_refusal(rt, refusal)?;
     }
     Ok(())

@@ -42,24 +42,21 @@ pub(crate) fn copy_tape(rt: &HostRuntime, from: &str, to: &str) -> Result<(), Fa
 
 // A reader filled from the file, a drum and a punch, each on its buffer.
 fn devices(rt: &HostRuntime, from: &str) -> Result<Devices, Failure> {
-    let frames = match fs::read(rt, from) {
-        Ok(frames) => frames,
-        Err(reason) => {
-            let path = from.to_string(rt.alloc())?;
-            return Err(Failure::Unreadable { path, reason });
-        }
-    };
+    let frames = fs::read(rt, from).try_map_err(|reason| -> Result<Failure, Failure> {
+        let path = from.to_string(rt.alloc())?;
+        Ok(Failure::Unreadable { path, reason })
+    })?;
     let count = frames.len();
     println!(rt; "tape: {count} frames in {from}")?;
     let mut reader = TapeReader::new(rt.alloc())?;
     reader.fill(frames.as_slice())?;
     let punch = Plugged::new(
         Punch::new(rt.alloc())?,
-        BufferNumber::new(PUNCH)?,
+        BufferNumber::try_from(PUNCH)?,
         EmptyBank,
     );
-    let drum = Plugged::new(Drum::new(), BufferNumber::new(DRUM)?, punch);
-    Ok(Plugged::new(reader, BufferNumber::new(READER)?, drum))
+    let drum = Plugged::new(Drum::new(), BufferNumber::try_from(DRUM)?, punch);
+    Ok(Plugged::new(reader, BufferNumber::try_from(READER)?, drum))
 }
 
 // Writes symbols to a buffer, and says how many.
@@ -87,7 +84,7 @@ fn keep_on_drum<B: Bank>(rt: &HostRuntime, bank: &mut B, symbols: &[u8]) -> Resu
     let back = read_out(rt.alloc(), bank, DRUM)?;
     let kept = back.symbols.as_slice();
     let count = symbols.len();
-    if kept.len() < count || &kept[0..count] != symbols {
+    if !kept.starts_with(symbols) {
         return Err(Failure::OtherSymbols);
     }
     println!(rt; "drum: {count} symbols read back as they were written")?;

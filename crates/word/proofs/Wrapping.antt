@@ -1,10 +1,9 @@
 -- Wrapping modulo 2^w, for every width w.
-use Rattle.std.proofs.Common.{◌≡◌, ℕ, zero, suc, ◌+◌, ◌-◌, ◌*◌, ◌/◌, ◌%◌, ◌^◌, ◌<◌, ◌≤◌, Bool, true, false, cond, ◌||◌, ltb, ℤ, pos, negsuc, ◌+ℤ◌, ◌-ℤ◌, ◌*ℤ◌, neg_ℤ, nat_abs, ◌≤ℤ◌, ◌<ℤ◌, sym, refl, ap, ◌∙◌, mod-lt, mod-eq_of_lt, mul_assoc, mul-le-mul_left, div-add-mod', arith, pow_pos}
+use Rattle.std.proofs.Common.{◌≡◌, ℕ, ◌+◌, ◌-◌, ◌*◌, ◌/◌, ◌%◌, ◌^◌, ◌<◌, ◌≤◌, false, ℤ, pos, negsuc, ◌+ℤ◌, ◌-ℤ◌, ◌*ℤ◌, neg_ℤ, nat_abs, ◌≤ℤ◌, ◌<ℤ◌, sym, refl, ap, ◌∙◌, mod-lt, mod-eq_of_lt, mul_assoc, mul-le-mul_left, div-add-mod', arith, pow_pos, rules}
+use Rattle.std.proofs.lemmas.Grind.{common_steps}
 use lib.IntN.{*ℤ_comm}
-use lib.Signed.{lt_z, le_z}
 use borrow.Author.Differences.{ints, up, down, same_in, same_out, sum_is_lem, neg_is, product_is}
 use Rattle.std.proofs.lemmas.Int.{int_rem_euclid_is}
-use Rattle.std.proofs.lemmas.Bool.{lt-ltb, le-ltb, lt-leb, ltb-true, ltb-false, or_parts}
 use Rattle.word.specs.Wrap.{wrap, signed, outside}
 use Rattle.word.specs.Laws.{Wraps}
 use Rattle.word.proofs.Powers.{factor, double}
@@ -32,8 +31,7 @@ rest w (negsuc a) =
     (0, a / 2 ^ w + 1, omega (arith, same_in, sum_is_lem, div-add-mod' a (2 ^ w)))
 
 pub wrap_below : (w : ℕ) (z : ℤ) → wrap w z < 2 ^ w
-wrap_below w (pos a) = mod-lt a (pow_pos w)
-wrap_below w (negsuc a) = omega (arith, pow_pos w)
+wrap_below w z = search rules
 
 wrap_turns : (w : ℕ) (a : ℤ) (k : ℕ) → wrap w (a +ℤ pos (k * 2 ^ w)) ≡ wrap w a
 wrap_turns w a k = wrap_same w (a +ℤ pos (k * 2 ^ w)) a 0 k (omega (arith, same_in, same_out, sum_is_lem))
@@ -81,59 +79,25 @@ wrap_mul w a b =
     ∙ wrap_mul_left w b a ∙ ap (wrap w) (*ℤ_comm b a)
 
 pub wrap_signed : (w x : ℕ) → x < 2 ^ w → wrap w (signed w x) ≡ x
-wrap_signed w x h = by (ltb x (2 ^ (w - 1)))
-  where
-    by : (t : Bool) → wrap w (cond t (pos x) (negsuc (2 ^ w - 1 - x))) ≡ x
-    by true = mod-eq_of_lt h
-    by false = let e : (2 ^ w - 1 - x) % 2 ^ w ≡ 2 ^ w - 1 - x = mod-eq_of_lt (omega arith) in omega arith
+wrap_signed w x h = grind arith
 
 -- a number does not overflow where it or its complement lies below 2^(w-1)
 pub in_pos : (w n : ℕ) → n < 2 ^ (w - 1) → outside w (pos n) ≡ false
-in_pos w n h = go (2 ^ (w - 1)) h
-  where
-    go : (b : ℕ) → n < b → (lt_z (pos n) (neg_ℤ (pos b)) || le_z (pos b) (pos n)) ≡ false
-    go zero p = absurd (omega arith)
-    go (suc b) p = lt-leb (suc b) n p
+in_pos w n h = grind arith
 
 pub in_neg : (w n : ℕ) → n < 2 ^ (w - 1) → outside w (negsuc n) ≡ false
-in_neg w n h = go (2 ^ (w - 1)) h
-  where
-    go : (b : ℕ) → n < b → (lt_z (negsuc n) (neg_ℤ (pos b)) || le_z (pos b) (negsuc n)) ≡ false
-    go zero p = absurd (omega arith)
-    go (suc b) p = ap (λ (t : Bool). t || false) (le-ltb b n (omega arith))
+in_neg w n h = grind arith
 
 signed_inside : (w x : ℕ) → 0 < w → x < 2 ^ w → outside w (signed w x) ≡ false
-signed_inside w x some below = by (ltb x (2 ^ (w - 1))) refl
-  where
-    by : (t : Bool) → ltb x (2 ^ (w - 1)) ≡ t → outside w (cond t (pos x) (negsuc (2 ^ w - 1 - x))) ≡ false
-    by true e = in_pos w x (ltb-true x (2 ^ (w - 1)) e)
-    by false e = in_neg w (2 ^ w - 1 - x) (omega (arith, double w some, ltb-false x (2 ^ (w - 1)) e))
+signed_inside w x some below = grind (arith, common_steps)
 
 -- where a number lies that does not overflow
 pub inside : (w : ℕ) (z : ℤ) → outside w z ≡ false → (neg_ℤ (pos (2 ^ (w - 1))) ≤ℤ z) × (z <ℤ pos (2 ^ (w - 1)))
-inside w z e =
-    let bound = pos (2 ^ (w - 1)) in
-    let p = or_parts (lt_z z (neg_ℤ bound)) (le_z bound z) e in
-    let low = p.0 in
-    let high = p.1 in
-    (omega (arith, ints), omega (arith, ints))
+inside w z e = grind arith
 
 pub signed_wrap : (w : ℕ) (a : ℤ) → 0 < w → outside w a ≡ false → signed w (wrap w a) ≡ a
-signed_wrap w (pos n) h e =
-    let b = (inside w (pos n) e).1 in
-    let twice = double w h in
-    let small : n < 2 ^ (w - 1) = omega (arith, ints) in
-    let same : n % 2 ^ w ≡ n = mod-eq_of_lt (omega arith) in
-    ap (signed w) same ∙ ap (λ (t : Bool). cond t (pos n) (negsuc (2 ^ w - 1 - n))) (lt-ltb n (2 ^ (w - 1)) small)
-signed_wrap w (negsuc n) h e =
-    let b = (inside w (negsuc n) e).0 in
-    let twice = double w h in
-    let small : n < 2 ^ (w - 1) = omega (arith, ints) in
-    let same : n % 2 ^ w ≡ n = mod-eq_of_lt (omega arith) in
-    let back : 2 ^ w - 1 - (2 ^ w - 1 - n) ≡ n = omega arith in
-    ap (λ x. signed w (2 ^ w - 1 - x)) same
-    ∙ ap (λ (t : Bool). cond t (pos (2 ^ w - 1 - n)) (negsuc (2 ^ w - 1 - (2 ^ w - 1 - n)))) (le-ltb (2 ^ w - 1 - n) (2 ^ (w - 1)) (omega arith))
-    ∙ ap negsuc back
+signed_wrap w (pos n) h e = grind (arith, double w h, mod-eq_of_lt, inside w (pos n) e)
+signed_wrap w (negsuc n) h e = grind (arith, double w h, mod-eq_of_lt, inside w (negsuc n) e)
 
 pub wraps : (w : ℕ) → Wraps w
 wraps w = record {

@@ -17,9 +17,8 @@ pub fn split(word: Word) -> [u8; 8]
 pub fn pack(symbols: [u8; 8]) -> Word
     ensures { result.bits ≡ packed symbols }
 {
-    let mut bits = 0u64;
-    for s in symbols {
-        bits = (bits << 6) + u64::from(s % 64);
-    }
+    let bits = symbols
+        .iter()
+        .fold(0, |bits, s| (bits << 6) + u64::from(s % 64));
     Word::new(bits)
 }

@@ -1,10 +1,10 @@
-use Rattle.std.proofs.Common.{◌≡◌, ◌*◌, ◌%◌, ◌^◌, ◌<◌, pos, ap, ◌∙◌, arith, w64, to_z}
+use Rattle.std.proofs.Common.{arith}
 use Rattle.std.proofs.lemmas.Nat.{one_shl, pow_below}
 use Rattle.std.proofs.lemmas.Int.{to_z_pos, ints}
 use Rattle.word.proofs.word.shifts.power.Goals as goal
 
-pub returns : goal.returns
-returns c =
-    let small : 2 ^ c.args.by < 2 ^ 62 = pow_below c.args.by 62 (omega arith) in
-    let is : to_z w64 (1 * 2 ^ c.args.by % 2 ^ 64) ≡ pos (2 ^ c.args.by) = ap (to_z w64) (one_shl c.args.by 64 (omega arith)) ∙ to_z_pos w64 (2 ^ c.args.by) (omega arith) in
-    record { value = is; bound = omega (arith, ints) }
+pub returns-clause-value : goal.returns-clause-value
+returns-clause-value c = grind (arith, one_shl c.args.by 64, pow_below c.args.by 62, to_z_pos)
+
+pub returns-clause-bound : goal.returns-clause-bound
+returns-clause-bound c = grind (arith, ints, one_shl c.args.by 64, pow_below c.args.by 62, to_z_pos)

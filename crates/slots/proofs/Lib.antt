@@ -1,2 +1,4 @@
-pub mod Tables
+pub mod Areas
+pub mod Found
 pub mod Orders
+pub mod Overlaps

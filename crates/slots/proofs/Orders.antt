@@ -1,8 +1,12 @@
 -- The next order of the program in a slot.
-use Rattle.std.proofs.Common.{◌≡◌, ℕ, ◌+◌, ◌<◌, ◌≤◌, Bool, true, false, cond, ltb, List, ◌++◌, map, length, get_or, take, drop, set, is_some, Some, None, Ok, Err, Option, Result, sym, refl, ap, ◌∙◌, arith, drop-drop}
+use Rattle.std.proofs.Common.{◌≡◌, ℕ, ◌+◌, ◌-◌, ◌<◌, ◌≤◌, ltb, cond, List, length, get_or, take, drop, slice_range, set, Some, None, Ok, Err, Option, Result, Bool, true, false, refl, ap, ap₂, ◌∙◌, sym, inl, inr, arith}
 use mathlib.Core.Path.{fun_ext}
 use borrow.Rule.Slice.PartMut.{put_mid}
-use Rattle.std.proofs.lemmas.Bool.{cond_above, ltb-false}
+use Rattle.std.specs.Option.{option_map}
+use Rattle.std.proofs.lemmas.Bool.{cond_above, ltb-false, cases_lt}
+use Rattle.std.proofs.lemmas.Bool.Decides.{nat_tests}
+use Rattle.std.proofs.lemmas.Grind.{common_steps}
+use Rattle.std.proofs.lemmas.List.{get_or_default, get_or_past}
 use Rattle.device.specs.Meaning.{Meaning}
 use Rattle.buffers.specs.declared.buffer.Buffer.{Buffer}
 use Rattle.outlook.specs.Own.{Own, owning, own_of, lines_of}
@@ -10,128 +14,112 @@ use Rattle.outlook.specs.Outlook.{foreseen}
 use Rattle.outlook.specs.declared.bound.Bound.{Bound}
 use Rattle.outlook.specs.declared.next.Next.{Next}
 use Rattle.registers.specs.declared.registers.Registers.{Registers}
+use Rattle.registers.specs.Registers.{regs_of}
 use Rattle.program.specs.Effects.{tried, carried}
-use Rattle.program.specs.Kept.{Kept}
+use Rattle.program.specs.Kept.{Kept, update}
 use Rattle.program.specs.Told.{Told}
 use Rattle.host.specs.Steps.{tried_by}
 use Rattle.host.specs.Turns.{try}
-use Rattle.host.specs.World.{World, Program, part, put_part, put, with_own}
+use Rattle.host.specs.World.{World, Program, part, put, with_own}
 use Rattle.host.proofs.Lens.{put_back}
-use Rattle.slots.specs.Ahead.{seen, ahead_of}
+use Rattle.slots.specs.Ahead.{ahead_of}
 use Rattle.slots.specs.Carried.{Carried}
-use Rattle.slots.specs.Held.{held, held_as}
-use Rattle.slots.specs.declared.slots.Ahead.{Ahead}
-use Rattle.slots.specs.declared.slots.Slot.{Slot}
-use Rattle.slots.specs.declared.slots.State.{State}
-use Rattle.slots.specs.declared.slots.State.TheVariants.{Empty, Ready, Stopped}
-use Rattle.slots.specs.declared.slots.Ahead.TheVariants.{NoStore, Does}
-use Rattle.slots.proofs.Tables.{there, one_set, used, as_program, with_registers}
+use Rattle.slots.specs.Held.{program_of}
+use Rattle.slots.specs.declared.slots.Program.{Program as ToldProgram}
+use Rattle.slots.proofs.Areas.{part_written}
 
 -- what is ahead, from the outlook on the part of the store
 pub ahead_is :
-    (p : ℕ) (g : Program) (store : List ℕ) (buffers : ℕ → Buffer) (ready : Bool) (bank : ℕ → Option Meaning) (k : ℕ) (r : Result Next Bound)
-    → k ≡ g.size
-    → g.base + g.size ≤ length store
-    → r ≡ foreseen (owning (take k (drop g.base store)) g.regs ready (lines_of p buffers bank))
-    → seen r ≡ ahead_of p (Some g) store buffers ready bank
+    (p : ℕ) (g : Program) (store area : List ℕ) (buffers : ℕ → Buffer) (ready : Bool) (bank : ℕ → Option Meaning) (r : Result Next Bound) (from to : ℕ)
+    → from ≡ g.base
+    → to ≡ g.base + g.size
+    → to ≤ length store
+    → area ≡ slice_range store from to
+    → r ≡ foreseen (owning area g.regs ready (lines_of p buffers bank))
+    → Some r ≡ ahead_of p (Some g) store buffers ready bank
 unfolding part
-ahead_is p g store buffers ready bank k r e inside was =
-    cond_above (length store) (g.base + g.size) NoStore _ (seen r) inside
-    (ap seen (was ∙ ap (λ n. foreseen (owning (take n (drop g.base store)) g.regs ready (lines_of p buffers bank))) e))
+ahead_is p g store area buffers ready bank r from to ef et inside ea was =
+    let n : to - from ≡ g.size = omega arith in
+    cond_above (length store) (g.base + g.size) None _ (Some r) (omega arith)
+    (ap Some (was ∙ ap (λ xs. foreseen (owning xs g.regs ready (lines_of p buffers bank))) (ea ∙ ap₂ (λ a k. take k (drop a store)) ef n)))
 
-never_none : (next : Next) → Does next ≡ NoStore → ⊥
-never_none next e = let z : ◌≡◌ {A = ℕ} 0 1 = cc in omega arith
+-- what is ahead of a program: its area is in the store, and the outlook gives it
+pub record Known (p : ℕ) (g : Program) (store : List ℕ) (buffers : ℕ → Buffer) (r : Result Next Bound) : Type 0 where
+  pub inside : g.base + g.size ≤ length store
+  pub ahead : (ready : Bool) (bank : ℕ → Option Meaning) → r ≡ foreseen (owning (part g.base g.size store) g.regs ready (lines_of p buffers bank))
 
-foreseen_ok : (next : Next) (r : Result Next Bound) → Does next ≡ seen r → Ok next ≡ r
-foreseen_ok next (Ok x) e = cc
-foreseen_ok next (Err b) e = let z : ◌≡◌ {A = ℕ} 0 1 = cc in absurd (omega arith)
+given : {X : Type 0} (b : Bool) (x y : X) → ◌≡◌ {A = Option X} (Some x) (cond b None (Some y)) → (b ≡ false) × (x ≡ y)
+given true x y e = cc
+given false x y e = (refl, cc)
 
-second : (a b : ℕ) (next : Next) (y : Ahead) → Does next ≡ cond (ltb a b) NoStore y → (b ≤ a) × (Does next ≡ y)
-second a b next y e = at (ltb a b) refl e
-  where
-    at : (t : Bool) → ltb a b ≡ t → Does next ≡ cond t NoStore y → (b ≤ a) × (Does next ≡ y)
-    at true h f = absurd (never_none next f)
-    at false h f = (ltb-false a b h, f)
+abbrev FoundAhead : ℕ → Option Program → List ℕ → (ℕ → Buffer) → Result Next Bound → Type 0
+FoundAhead p o store buffers r = (ready : Bool) (bank : ℕ → Option Meaning) → Some r ≡ ahead_of p o store buffers ready bank
 
--- an order that is ahead of a slot: it is in use, its area is in the store, and the outlook gives the order
-pub record Known (p : ℕ) (s : Slot) (store : List ℕ) (buffers : ℕ → Buffer) (next : Next) : Type 0 where
-  pub used : is_some (held s) ≡ true
-  pub inside : s.base + s.size ≤ length store
-  pub ahead : (ready : Bool) (bank : ℕ → Option Meaning) → Ok next ≡ foreseen (own_of p s.registers (part s.base s.size store) ready buffers bank)
+pub known : (p : ℕ) (g : Program) (store : List ℕ) (buffers : ℕ → Buffer) (r : Result Next Bound) → FoundAhead p (Some g) store buffers r → Known p g store buffers r
+known p g store buffers r e = record {
+  inside = ltb-false _ _ (given _ _ _ (e true (λ k. None))).0;
+  ahead = λ ready bank. (given _ _ _ (e ready bank)).1;
+}
 
-pub known :
-    (p : ℕ) (s : Slot) (store : List ℕ) (buffers : ℕ → Buffer) (next : Next)
-    → ((ready : Bool) (bank : ℕ → Option Meaning) → Does next ≡ ahead_of p (held s) store buffers ready bank)
-    → Known p s store buffers next
-known p s store buffers next e = at (is_some (held s)) refl
-  where
-    program : (ready : Bool) (bank : ℕ → Option Meaning) (st : State) → is_some (held_as st s) ≡ true → Does next ≡ ahead_of p (held_as st s) store buffers ready bank → (s.base + s.size ≤ length store) × (Ok next ≡ foreseen (own_of p s.registers (part s.base s.size store) ready buffers bank))
-    program ready bank Empty u f = absurd (never_none next f)
-    program ready bank Ready u f = let t = second (length store) (s.base + s.size) next _ f in (t.0, foreseen_ok next _ t.1)
-    program ready bank Stopped u f = let t = second (length store) (s.base + s.size) next _ f in (t.0, foreseen_ok next _ t.1)
+-- nothing is ahead where no program is
+pub none_ahead : (p : ℕ) (store : List ℕ) (buffers : ℕ → Buffer) (r : Result Next Bound) → FoundAhead p None store buffers r → ⊥
+none_ahead p store buffers r e = let z = e true (λ k. None) in cc
 
-    empty : (st : State) → is_some (held_as st s) ≡ false → Does next ≡ ahead_of p (held_as st s) store buffers true (λ k. None) → ⊥
-    empty Empty u f = never_none next f
-    empty Ready u f = let z : ◌≡◌ {A = ℕ} 0 1 = cc in omega arith
-    empty Stopped u f = let z : ◌≡◌ {A = ℕ} 0 1 = cc in omega arith
-
-    at : (b : Bool) → is_some (held s) ≡ b → Known p s store buffers next
-    at true u = record {
-      used = u;
-      inside = (program true (λ k. None) s.state u (e true (λ k. None))).0;
-      ahead = λ ready bank. (program ready bank s.state u (e ready bank)).1;
-    }
-    at false u = absurd (empty s.state u (e true (λ k. None)))
-
--- a part of the store that was written
-pub part_written : (base k : ℕ) (words store : List ℕ) → length words ≡ k → put_mid base k store words ≡ put_part base words store
-unfolding put_part
-part_written base k words store e =
-    ap (λ xs. take base store ++ (words ++ xs)) (drop-drop k base store ∙ ap (λ n. drop (base + n) store) (sym e))
+-- where something is ahead, the table has the slot, and what is read there is the slot's
+pub ahead_at :
+    (t : List (Option ToldProgram)) (i p : ℕ) (o : Option ToldProgram) (store : List ℕ) (buffers : ℕ → Buffer) (r : Result Next Bound)
+    → i ≡ p
+    → FoundAhead p (option_map program_of (get_or t p None)) store buffers r
+    → (p < length t) × (get_or t p None ≡ get_or t i o)
+ahead_at t i p o store buffers r e found = elim (cases_lt p (length t)) [
+  | inl below ↦ (below, get_or_default t p None o below ∙ ap (λ k. get_or t k o) (sym e))
+  | inr past ↦ absurd (none_ahead p store buffers r (λ ready bank.
+      found ready bank ∙ ap (λ x. ahead_of p (option_map program_of x) store buffers ready bank) (get_or_past t p None past)))
+]
 
 -- an order carried out is the order tried
-pub tried_is : (o q : Own) (next : Next) (x : Told) → Ok next ≡ foreseen o → carried next o ≡ (q, x) → try o ≡ (q, x)
+tried_is : (o q : Own) (next : Next) (x : Told) → Ok next ≡ foreseen o → carried next o ≡ (q, x) → try o ≡ (q, x)
 unfolding try
 tried_is o q next x e f = ap (λ r. tried r o) (sym e) ∙ f
 
--- from what carrying the order out did to a slot's parts
+-- from what carrying the order out did to a program's registers and its area
 pub carried_out :
-    (p : ℕ) (s : Slot) (regs : Registers) (store area : List ℕ) (buffers buffers' : ℕ → Buffer) (bank bank' : ℕ → Option Meaning) (next : Next) (x : Told) (k : ℕ)
-    → k ≡ s.size
-    → Known p s store buffers next
-    → length area ≡ k
-    → ((ready : Bool) → carried next (own_of p s.registers (take k (drop s.base store)) ready buffers bank) ≡ (own_of p regs area ready buffers' bank', x))
+    (p : ℕ) (g : Program) (regs old : Registers) (store area : List ℕ) (buffers buffers' : ℕ → Buffer) (bank bank' : ℕ → Option Meaning) (next : Next) (x : Told)
+    → regs_of old ≡ g.regs
+    → length area ≡ g.size
+    → ((ready : Bool) (bank : ℕ → Option Meaning) → Ok next ≡ foreseen (own_of p old (part g.base g.size store) ready buffers bank))
+    → ((ready : Bool) → carried next (own_of p old (part g.base g.size store) ready buffers bank) ≡ (own_of p regs area ready buffers' bank', x))
     → Kept p buffers buffers' bank bank'
-    → Carried p (held s) (held (with_registers s regs)) store (put_mid s.base k store area) buffers buffers' bank bank' x
-unfolding part
-carried_out p s regs store area buffers buffers' bank bank' next x k ek known long own kept =
-    let u = used s known.used in
-    record {
-      program = as_program s s.registers u.0;
-      there = u.1 s.registers;
-      owns = own_of p regs area u.0 buffers' bank';
-      tried = tried_is _ _ next x (known.ahead u.0 bank)
-          (ap (λ n. carried next (own_of p s.registers (take n (drop s.base store)) u.0 buffers bank)) (sym ek) ∙ own u.0);
-      then = u.1 regs;
-      stored = part_written s.base k area store long;
-      lines = refl;
-      kept = kept;
-    }
+    → Carried p g (record { base = g.base; size = g.size; regs = regs_of regs; ready = g.ready }) store (put_mid g.base g.size store area) buffers buffers' bank bank' x
+carried_out p g regs old store area buffers buffers' bank bank' next x er long known own kept = record {
+  owns = own_of p regs area g.ready buffers' bank';
+  tried = ap (λ r. try (owning (part g.base g.size store) r g.ready (lines_of p buffers bank))) (sym er) ∙ tried_is _ _ next x (known g.ready bank) (own g.ready);
+  then = refl;
+  stored = part_written g.base g.size area store long;
+  lines = refl;
+  kept = kept;
+}
+
+-- the programs of a table with one changed
+pub one_set : (t : List (Option ToldProgram)) (p : ℕ) (o : Option ToldProgram) (k : ℕ) → p < length t
+    → option_map program_of (get_or (set t p o) k None) ≡ update (λ j. option_map program_of (get_or t j None)) p (option_map program_of o) k
+one_set t p o k h = grind (arith, common_steps, nat_tests)
 
 -- the world of slots with one changed
 pub carried_world :
-    (p : ℕ) (t : List Slot) (d s' : Slot) (store store' : List ℕ) (buffers buffers' : ℕ → Buffer) (bank bank' : ℕ → Option Meaning) (x : Told)
+    (p : ℕ) (t : List (Option ToldProgram)) (g : Program) (g' : ToldProgram) (store store' : List ℕ) (buffers buffers' : ℕ → Buffer) (bank bank' : ℕ → Option Meaning) (x : Told)
     → p < length t
-    → Carried p (held (get_or t p d)) (held s') store store' buffers buffers' bank bank' x
+    → option_map program_of (get_or t p None) ≡ Some g
+    → Carried p g (program_of g') store store' buffers buffers' bank bank' x
     → ◌≡◌ {A = World × Told}
-    (record { store = store'; slots = λ k. get_or (map held (set t p s')) k None; buffers = buffers'; bank = bank' }, x)
-    (tried_by p (record { store = store; slots = λ k. get_or (map held t) k None; buffers = buffers; bank = bank }) (get_or (map held t) p None))
-carried_world p t d s' store store' buffers buffers' bank bank' x h c =
+    (record { store = store'; slots = λ k. option_map program_of (get_or (set t p (Some g')) k None); buffers = buffers'; bank = bank' }, x)
+    (tried_by p (record { store = store; slots = λ k. option_map program_of (get_or t k None); buffers = buffers; bank = bank }) (option_map program_of (get_or t p None)))
+carried_world p t g g' store store' buffers buffers' bank bank' x h there c =
     ap (λ w. (w, x))
-    (put_back p c.program before c.owns store' (λ k. get_or (map held (set t p s')) k None) buffers' bank' c.kept c.stored
-    (fun_ext (one_set t p s' (Some (with_own c.program c.owns)) h c.then)) c.lines)
-    ∙ ap (λ (r : Own × Told). (put p c.program r.0 before, r.1)) (sym c.tried)
-    ∙ ap (tried_by p before) (sym (there t p d h ∙ c.there))
+    (put_back p g before c.owns store' (λ k. option_map program_of (get_or (set t p (Some g')) k None)) buffers' bank' c.kept c.stored
+    (fun_ext (λ k. one_set t p (Some g') k h ∙ ap (λ y. update before.slots p (Some y) k) c.then)) c.lines)
+    ∙ ap (λ (r : Own × Told). (put p g r.0 before, r.1)) (sym c.tried)
+    ∙ ap (tried_by p before) (sym there)
   where
     before : World
-    before = record { store = store; slots = λ k. get_or (map held t) k None; buffers = buffers; bank = bank }
+    before = record { store = store; slots = λ k. option_map program_of (get_or t k None); buffers = buffers; bank = bank }

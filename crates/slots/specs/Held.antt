@@ -1,12 +1,12 @@
 -- The slots of the code, as the programs that they hold, and the world that they make with a store, buffers and devices.
 --
--- held         the program in a slot, if one is there
--- program_at   the program in a slot by number
+-- program_of   a program of the code, as a program
+-- program_at   the program in a slot by number, if one is there
 -- world_of     the world of a store, slots, buffers and devices
 -- state_of     the state of a slot
 -- halted       a slot with its program stopped
 -- asked        what a question answers of a slot by number; area_of, regs_held: two such questions
-use Rattle.std.specs.Prelude.{ℕ, Bool, true, false, cond, List, map, Some, None, Option, nat_lt, slice_index_or}
+use Rattle.std.specs.Prelude.{ℕ, Bool, true, false, cond, not, List, Some, None, Option, option_map, nat_lt, slice_index_or}
 use Rattle.device.specs.Bank.{Devices, standing}
 use Rattle.registers.specs.Registers.{Regs, regs_of}
 use Rattle.buffers.specs.declared.buffer.Buffer.{Buffer}
@@ -14,20 +14,15 @@ use Rattle.buffers.specs.Buffers.{records}
 use Rattle.host.specs.World.{World, Program}
 use Rattle.slots.specs.declared.slots.State.{State}
 use Rattle.slots.specs.declared.slots.State.TheVariants.{Empty, Ready, Stopped}
-use Rattle.slots.specs.declared.slots.Area.{Area}
-use Rattle.slots.specs.declared.slots.Slot.{Slot}
+use Rattle.slots.specs.declared.area.Area.{Area}
+use Rattle.slots.specs.declared.slots.Program.{Program as ToldProgram}
 use Rattle.slots.specs.declared.slots.Slots.{Slots}
 
-abbrev pub held_as : State → Slot → Option Program
-held_as Empty s = None
-held_as Ready s = Some (record { base = s.base; size = s.size; regs = regs_of s.registers; ready = true })
-held_as Stopped s = Some (record { base = s.base; size = s.size; regs = regs_of s.registers; ready = false })
-
-abbrev pub held : Slot → Option Program
-held s = held_as s.state s
+abbrev pub program_of : ToldProgram → Program
+program_of g = record { base = g.area.base; size = g.area.size; regs = regs_of g.registers; ready = not g.stopped }
 
 abbrev pub program_at : Slots → ℕ → Option Program
-program_at s p = slice_index_or (map held s.table) p None
+program_at s p = option_map program_of (slice_index_or s.table p None)
 
 abbrev pub world_of : List ℕ → Slots → List Buffer → Devices → World
 world_of store slots buffers devices = record {

@@ -1,20 +1,52 @@
 // Areas, and the words of an image.
-ghost use Rattle.std.specs.Prelude.{◌≡◌, ◌*◌, ◌<◌, ◌≤◌, length, slice_index};
+ghost use Rattle.std.specs.Prelude.{◌≡◌, ◌+◌, ◌*◌, ◌<◌, ◌≤◌, ◌&&◌, length, nat_lt, slice_index};
 ghost use Rattle.host.specs.Calls.{unshaped, past, image_word, image_words};
 
-// Whether a base or a size is no multiple of 32, or the size is 0.
-pub fn is_unshaped(base: u32, size: u32) -> bool
-    ensures { result ≡ unshaped base size }
-{
-    base % 32 != 0 || size % 32 != 0 || size == 0
+use std::ops::Range;
+
+// Where a program's area begins, and how many words it has.
+#[derive(Clone, Copy, PartialEq, Eq, Debug)]
+pub struct Area {
+    pub base: u32,
+    pub size: u32,
 }
 
-// Whether an area passes the end of a store of so many words, or word 32,768.
-pub fn is_past(words: usize, base: u32, size: u32) -> bool
-    ensures { result ≡ past words base size }
-{
-    let end = base as usize + size as usize;
-    words < end || 32768 < end
+impl Area {
+    // The place in the store after its last word.
+    pub(crate) fn end(self) -> usize
+        ensures { result ≡ self.base + self.size }
+    {
+        self.base as usize + self.size as usize
+    }
+
+    // The places of its words in the store.
+    pub fn range(self) -> Range<usize>
+        ensures start { result.start ≡ self.base }
+        ensures end { result.end ≡ self.base + self.size }
+    {
+        self.base as usize..self.end()
+    }
+
+    // Whether its base or its size is no multiple of 32, or the size is 0.
+    pub fn is_unshaped(self) -> bool
+        ensures { result ≡ unshaped self.base self.size }
+    {
+        self.base % 32 != 0 || self.size % 32 != 0 || self.size == 0
+    }
+
+    // Whether it passes the end of a store of so many words, or word 32,768.
+    pub fn is_past(self, words: usize) -> bool
+        ensures { result ≡ past words self.base self.size }
+    {
+        words < self.end() || 32768 < self.end()
+    }
+
+    // Whether it has a word in common with another.
+    pub(crate) fn overlaps(self, other: Area) -> bool
+        ensures { result ≡ (nat_lt self.base (other.base + other.size) && nat_lt other.base (self.base + self.size)) }
+    {
+        (self.base as usize) < other.end() && (other.base as usize) < self.end()
+    }
 }
 
 // A byte of an image; past its end they are zeros.
@@ -22,11 +54,7 @@ fn image_byte(image: &[u8], at: usize) -> u64
     ensures answer { result ≡ slice_index image.now at }
     ensures within { result < 256 }
 {
-    if at < image.len() {
-        image[at] as u64
-    } else {
-        0
-    }
+    image.get(at).copied().map_or(0, u64::from)
 }
 
 // Word k of an image: six bytes, the top byte first.
@@ -45,7 +73,7 @@ pub fn fill(area: &mut [u64], image: &[u8])
     requires { length area.old ≤ 32768 }
     ensures { area.new ≡ image_words image.now (length area.old) }
 {
-    for k in 0..area.len() {
-        area[k] = word_of(image, k);
+    for (k, entry) in area.iter_mut().enumerate() {
+        *entry = word_of(image, k);
     }
 }

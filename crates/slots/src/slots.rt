@@ -1,10 +1,9 @@
 // The slots P, Q, R and S, numbered 0 to 3.
-use outlook::bound::Bound;
-use outlook::next::Next;
+use crate::area::Area;
 use registers::registers::Registers;
 
 mod changes;
-mod one_slot;
+mod one_program;
 mod orders;
 mod questions;
 
@@ -15,34 +14,16 @@ pub enum State {
     Stopped,
 }
 
-// Where a program's area begins, and how many words it has.
-#[derive(Clone, Copy, PartialEq, Eq, Debug)]
-pub struct Area {
-    pub base: u32,
-    pub size: u32,
-}
-
-// A slot's record. Where it is empty, base, size and registers say nothing.
-#[derive(Clone, Copy)]
-pub struct Slot {
-    state: State,
-    base: u32,
-    size: u32,
+// A program in a slot. It is ready, or stopped.
+#[derive(Drop)]
+pub struct Program {
+    area: Area,
     registers: Registers,
+    stopped: bool,
 }
 
-#[derive(Clone, Copy)]
+// In each slot a program, or nothing.
+#[derive(Drop)]
 pub struct Slots {
-    table: [Slot; 4],
-}
-
-// What is ahead of the program in a slot.
-#[derive(Clone, Copy)]
-pub enum Ahead {
-    // the store ends before its area
-    NoStore,
-    // its next order breaks this bound first
-    Breaks(Bound),
-    // its next order breaks none
-    Does(Next),
+    table: [Option<Program>; 4],
 }

@@ -4,7 +4,8 @@ ghost use Rattle.program.specs.Kept.{update};
 ghost use Rattle.host.specs.Calls.{fresh};
 ghost use Rattle.slots.specs.Held.{program_at, halted};
 
-use super::{Slot, Slots};
+use super::{Program, Slots};
+use crate::area::Area;
 
 impl Slots {
     // All empty.
@@ -12,16 +13,16 @@ impl Slots {
         ensures { (k : ℕ) → program_at result k ≡ None }
     {
         Slots {
-            table: [Slot::empty(); 4],
+            table: [None, None, None, None],
         }
     }
 
     // A program comes, ready, its registers empty or zero.
-    pub fn load(&mut self, p: u8, base: u32, size: u32)
+    pub fn load(&mut self, p: u8, area: Area)
         requires { p < 4 }
-        ensures { (k : ℕ) → program_at self.new k ≡ update (program_at self.old) p (Some (fresh base size)) k }
+        ensures { (k : ℕ) → program_at self.new k ≡ update (program_at self.old) p (Some (fresh area.base area.size)) k }
     {
-        self.table[p as usize] = Slot::loaded(base, size);
+        self.table[usize::from(p)] = Some(Program::new(area));
     }
 
     // A program goes.
@@ -29,7 +30,7 @@ impl Slots {
         requires { p < 4 }
         ensures { (k : ℕ) → program_at self.new k ≡ update (program_at self.old) p None k }
     {
-        self.table[p as usize] = Slot::empty();
+        self.table[usize::from(p)] = None;
     }
 
     // A program is stopped.
@@ -37,6 +38,8 @@ impl Slots {
         requires { p < 4 }
         ensures { (k : ℕ) → program_at self.new k ≡ update (program_at self.old) p (halted (program_at self.old p)) k }
     {
-        self.table[p as usize] = self.table[p as usize].stopped();
+        if let Some(program) = &mut self.table[usize::from(p)] {
+            program.stopped = true;
+        }
     }
 }

@@ -1,19 +1,15 @@
-use Rattle.std.proofs.Common.{sym, ap, ◌∙◌, arith}
-use Rattle.buffers.proofs.Found.{any_found, any_more, any_none}
-use Rattle.host.specs.Calls.{meets}
-use Rattle.slots.specs.Held.{program_at}
-use Rattle.slots.proofs.Tables.{there}
+use Rattle.std.proofs.Common.{◌∙◌, rules, tests, arith}
+use Rattle.std.specs.Option.{option_to_list}
+use Rattle.std.proofs.lemmas.Iterator.{YieldsList-from_slice}
+use Rattle.std.proofs.lemmas.Iterator.Adapters.{YieldsList-from_flatten}
+use Rattle.std.proofs.lemmas.Iterator.Search.{any_from_yields_List}
+use Rattle.slots.proofs.Overlaps.{option_yields, meets_program, overlaps_is}
 use Rattle.slots.proofs.slots.Slots.overlap.Goals as goal
 
-pub loop-p-init : goal.loop-p-init
-loop-p-init c = any_none (λ k. meets c.args.base c.args.size (program_at c.args.self.now k))
-
-pub returns-then-meets : goal.returns-then-meets
-returns-then-meets c =
-    sym (any_found 4 (λ k. meets c.args.base c.args.size (program_at c.args.self.now k)) c.loop-p.p c.loop-p-test.true
-    (ap (meets c.args.base c.args.size) (there c.args.self.now.table c.loop-p.p c.index-self-p.result (omega arith)) ∙ sym c.if-meets.ensures))
-
-pub loop-p-preserved : goal.loop-p-preserved
-loop-p-preserved c =
-    any_more (λ k. meets c.args.base c.args.size (program_at c.args.self.now k)) c.loop-p.p c.loop-p.invariant
-    (ap (meets c.args.base c.args.size) (there c.args.self.now.table c.loop-p.p c.index-self-p.result (omega arith)) ∙ sym c.if-meets.ensures)
+pub returns : goal.returns
+returns c =
+    let a = c.args.area in
+    any_from_yields_List (meets_program a.base a.size) _ _ c.any.result c.any.ensures.ran
+    (YieldsList-from_flatten _ _ (λ y. y.now) option_to_list (λ x j b. option_yields x.now b.0 b.1) (YieldsList-from_slice c.args.self.now.table cc) (cc) (cc) (cc))
+    (λ x b q k. search (rules, tests))
+    ∙ overlaps_is a.base a.size c.args.self.now.table (omega arith)

@@ -52,7 +52,7 @@ pub record Changes (o q : Own) : Type 0 where
 
 -- an order that was foreseen breaks none of its bounds
 never : {X : Type 0} → (n : Next) (b : Bound) → ◌≡◌ {A = Result Next Bound} (Err b) (Ok n) → X
-never n b e = let z : ◌≡◌ {A = ℕ} 0 1 = cc in absurd (omega arith)
+never n b e = cc
 
 abbrev Unbroken : Next → Own → Type 0
 Unbroken n o = first (order_bounds n.order o) ≡ None
@@ -90,7 +90,7 @@ all_kept [] e = tt
 all_kept (b ∷ bs) e = at b.1 refl e (all_kept bs)
   where
     at : (t : Bool) → b.1 ≡ t → cond t (Some b.0) (first bs) ≡ None → (first bs ≡ None → AllKept bs) → AllKept (b ∷ bs)
-    at true et e on = let z : ◌≡◌ {A = ℕ} 0 1 = cc in absurd (omega arith)
+    at true et e on = cc
     at false et e on = (et, on e)
 
 -- orders that transfer nothing
@@ -153,7 +153,7 @@ module _ (o : Own) (q place : ℕ) where
       at transfer.Seek limits lock = move_changes kind.Seek parts place o its seeking
         where
           seeking : Unlocked o Seeking
-          seeking first last e = let z : ◌≡◌ {A = ℕ} 0 1 = cc in absurd (omega arith)
+          seeking first last e = cc
       at transfer.Busy limits lock = record { words = refl; lines = inl refl }
 
 order_changes : (x : Order) (place : ℕ) (o : Own) → AllKept (order_bounds x o) → Changes o (carried (record { order = x; place = place }) o).0

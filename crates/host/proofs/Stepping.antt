@@ -1,7 +1,7 @@
 -- A turn is entering, its steps, and handing back.
 use Rattle.std.proofs.Common.{◌≡◌, ℕ, zero, suc, ◌+◌, ◌^◌, ◌<◌, ◌≤◌, Bool, true, false, cond, not, eqb, ltb, length, is_some, Some, None, Option, sym, refl, ap, ◌∙◌, ap₂, inl, inr, arith}
 use mathlib.Core.Path.{fun_ext}
-use Rattle.std.proofs.lemmas.Bool.{cases_eq, cond-true, cond-false, le-ltb, ltb-false, eq-eqb}
+use Rattle.std.proofs.lemmas.Bool.{cases_eq, cond-true, cond-false, le-ltb, ltb-false, eq-eqb, not-false}
 use Rattle.outlook.specs.Own.{Own}
 use Rattle.program.specs.Kept.{update}
 use Rattle.program.specs.Told.{Told}
@@ -39,12 +39,8 @@ pub record Granted (p : ℕ) (w : World) : Type 0 where
   pub inside : program.base + program.size ≤ length w.store
 
 pass : (b : Bool) (n : ℕ) (rest : Option ℕ) → cond b (Some n) rest ≡ None → (b ≡ false) × (rest ≡ None)
-pass true n rest e = let z : ◌≡◌ {A = ℕ} 0 1 = cc in absurd (omega arith)
+pass true n rest e = cc
 pass false n rest e = (refl, e)
-
-is_true : (b : Bool) → not b ≡ false → b ≡ true
-is_true true e = refl
-is_true false e = sym e
 
 pub step_granted : (p : ℕ) (w : World) → first_failing (step_checks p w) ≡ None → Granted p w
 step_granted p w e =
@@ -55,8 +51,8 @@ step_granted p w e =
     at (w.slots p) refl (ltb-false 3 p a.0) b.0 c.0 d.0
   where
     at : (o : Option Program) → w.slots p ≡ o → p ≤ 3 → not (is_some o) ≡ false → is_stopped o ≡ false → cut_off (length w.store) o ≡ false → Granted p w
-    at None there number x y z = let f : ◌≡◌ {A = ℕ} 0 1 = cc in absurd (omega arith)
-    at (Some g) there number x y z = record { program = g; number = number; there = there; ready = is_true g.ready y; inside = ltb-false _ _ z }
+    at None there number x y z = cc
+    at (Some g) there number x y z = record { program = g; number = number; there = there; ready = not-false g.ready y; inside = ltb-false _ _ z }
 
 -- what a program owns, put back
 pub put_own : (p : ℕ) (g : Program) (w : World) → w.slots p ≡ Some g → g.base + g.size ≤ length w.store → put p g (own_in p g w) w ≡ w
@@ -73,16 +69,13 @@ put_own p g w there inside =
 -- a program that was ready and had no cause is ready
 ready_told : (x : Told) → cause_by x ≡ None → stops x ≡ false
 ready_told (done m) e = refl
-ready_told (broke b) e = let z : ◌≡◌ {A = ℕ} 0 1 = cc in absurd (omega arith)
-ready_told (refused k why m) e = let z : ◌≡◌ {A = ℕ} 0 1 = cc in absurd (omega arith)
+ready_told (broke b) e = cc
+ready_told (refused k why m) e = cc
 ready_told (out x) e = refl
 
 no_cause : (place : ℕ) (c : Option Cause) → stop_at place c ≡ None → c ≡ None
 no_cause place None e = refl
-no_cause place (Some c) e = let z : ◌≡◌ {A = ℕ} 0 1 = cc in absurd (omega arith)
-
-some_none : {X : Type 0} {x : X} → ◌≡◌ {A = Option X} (Some x) None → ⊥
-some_none e = let z : ◌≡◌ {A = ℕ} 0 1 = cc in omega arith
+no_cause place (Some c) e = cc
 
 ready_more : (t : Turn) (s : Option Stop) → t.stop ≡ s → (t.stop ≡ None → t.own.ready ≡ true) → (one_more s t).stop ≡ None → (one_more s t).own.ready ≡ true
 ready_more t (Some s) es h e = h e

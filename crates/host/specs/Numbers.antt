@@ -4,7 +4,7 @@
 -- words        what is wrong, for a person
 -- Answer       granted; a turn's report; or refused by a number
 -- answered, reported    the same, as the code answers it
--- first_number     the number of the refusal that a check gives, if it gives one
+-- refused_by       the number of the refusal of a check that fails
 use Rattle.std.specs.Prelude.{ℕ, Some, None, Ok, Err, Option, Result}
 use Prim.Native.String.{String}
 use Rattle.host.specs.Causes.{Report, report_of}
@@ -59,6 +59,6 @@ abbrev pub reported : Result ToldReport Refusal → Answer
 reported (Ok r) = ended (report_of r)
 reported (Err r) = refused (number_of r)
 
-abbrev pub first_number : Option Refusal → Option ℕ
-first_number None = None
-first_number (Some r) = Some (number_of r)
+abbrev pub refused_by : Result (Unit {0}) Refusal → Option ℕ
+refused_by (Ok u) = None
+refused_by (Err r) = Some (number_of r)

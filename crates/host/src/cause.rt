@@ -10,7 +10,7 @@ use outlook::bound::{Bound, Violation};
 use program::outcome::Outcome;
 use word::word::Word;
 
-#[derive(Clone, Copy)]
+#[derive(Clone, Copy, PartialEq, Eq, Debug)]
 pub enum Cause {
     // LIV, NOUV or LOV: the order broke this bound first
     Broken(Bound),
@@ -23,7 +23,7 @@ pub enum Cause {
 }
 
 // A cause with the slot that was entered, and the order's place; for COUNT that of the next order.
-#[derive(Clone, Copy)]
+#[derive(Clone, Copy, PartialEq, Eq, Debug)]
 pub struct Ending {
     pub slot: u8,
     pub place: u16,
@@ -31,7 +31,7 @@ pub struct Ending {
 }
 
 // What handing a turn back answers: how it ended, and how many orders were done.
-#[derive(Clone, Copy)]
+#[derive(Clone, Copy, PartialEq, Eq, Debug)]
 pub struct Report {
     pub ending: Ending,
     pub orders: u64,
@@ -70,10 +70,7 @@ pub fn stops(outcome: Outcome) -> bool
 {
     match outcome {
         Outcome::Done(_) | Outcome::Out(_) => false,
-        Outcome::Broke(bound) => match bound.violation() {
-            Violation::Liv | Violation::Nouv => true,
-            Violation::Lov => false,
-        },
+        Outcome::Broke(bound) => bound.violation() != Violation::Lov,
         Outcome::Refused(_, _, _) => true,
     }
 }

@@ -1,5 +1,5 @@
 -- From what the code does to the host's calls.
-use Rattle.std.proofs.Common.{◌≡◌, ℕ, ◌+◌, ◌<◌, ◌≤◌, List, replicate, map, length, get_or, take, drop, set, Some, None, ap, ◌∙◌, inl, inr, arith, length-drop, length-take}
+use Rattle.std.proofs.Common.{◌≡◌, ℕ, ◌+◌, ◌<◌, ◌≤◌, List, replicate, map, length, get_or, take, drop, set, Some, None, Ok, Err, Result, IsErrAnd, ap, ap₂, ◌∙◌, inl, inr, arith, length-drop, length-take}
 use borrow.Rule.Slice.PartMut.{put_mid}
 use Rattle.std.proofs.Math.ListN.{get_or-map}
 use Rattle.std.proofs.lemmas.Bool.{cases_lt}
@@ -10,20 +10,22 @@ use Rattle.buffers.specs.Buffers.{free, records, released}
 use Rattle.program.specs.Kept.{update}
 use Rattle.program.proofs.Changes.{set_update}
 use Rattle.host.specs.World.{World, put_part}
-use Rattle.host.specs.Numbers.{Answer}
+use Rattle.host.specs.Numbers.{Answer, answered, number_of}
 use Rattle.host.specs.Numbers.Answer.{granted, refused}
 use Rattle.host.specs.Calls.{Call, refusal, grant, by_check, perform, made, image_words, fresh, loaded, with_buffer, dismissed}
+use Rattle.host.specs.declared.refusal.Refusal.{Refusal}
 use Rattle.slots.specs.Held.{program_at, world_of}
 use Rattle.slots.specs.declared.slots.Slots.{Slots}
-use Rattle.slots.proofs.Orders.{part_written}
+use Rattle.slots.proofs.Areas.{part_written}
 
 -- a call that its checks turn down, and one that they let through
 
-pub refused_by : (c : Call) (w : World) (n : ℕ) → Some n ≡ refusal c w → ◌≡◌ {A = World × Answer} (w, refused n) (perform c w)
-refused_by c w n e = ap (by_check c w) e
+pub refused_call : (c : Call) (w : World) (r : Result (Unit {0}) Refusal) (e : Refusal) → IsErrAnd r (λ x. x ≡ e) → Some (number_of e) ≡ refusal c w → ◌≡◌ {A = World × Answer} (w, answered r) (perform c w)
+refused_call c w (Ok u) e none h = absurd none
+refused_call c w (Err x) e same h = ap (λ y. (w, refused (number_of y))) same ∙ ap (by_check c w) h
 
-pub granted_by : (c : Call) (w v x : World) → v ≡ x → ◌≡◌ {A = World × Answer} (x, granted) (grant c w) → None ≡ refusal c w → ◌≡◌ {A = World × Answer} (v, granted) (perform c w)
-granted_by c w v x e g h = ap (λ (y : World). (y, granted)) e ∙ g ∙ ap (by_check c w) h
+pub granted_call : (c : Call) (w v x : World) → v ≡ x → ◌≡◌ {A = World × Answer} (x, granted) (grant c w) → None ≡ refusal c w → ◌≡◌ {A = World × Answer} (v, granted) (perform c w)
+granted_call c w v x e g h = ap (λ (y : World). (y, granted)) e ∙ g ∙ ap (by_check c w) h
 
 -- a table of free buffers
 all_free : (n k : ℕ) (table : List Buffer) → length table ≡ n → table ≡ replicate n free → get_or table k free ≡ free
@@ -74,15 +76,17 @@ dismissed_shown store slots slots' table table' d p es et = λ i. record {
 
 -- an area filled in the store
 pub filled :
-    (base size k : ℕ) (store area image : List ℕ)
+    (from base size k : ℕ) (store area image : List ℕ)
+    → from ≡ base
     → k ≡ size
     → base + size ≤ length store
-    → length area ≡ length (take k (drop base store))
-    → area ≡ image_words image (length (take k (drop base store)))
-    → put_mid base k store area ≡ put_part base (image_words image size) store
-filled base size k store area image ek inside el e =
-    let long : length (take k (drop base store)) ≡ k = simp (length-take, length-drop) (omega arith) in
-    part_written base k area store (el ∙ long) ∙ ap (λ xs. put_part base xs store) (e ∙ ap (image_words image) (long ∙ ek))
+    → length area ≡ length (take k (drop from store))
+    → area ≡ image_words image (length (take k (drop from store)))
+    → put_mid from k store area ≡ put_part base (image_words image size) store
+filled from base size k store area image ef ek inside el e =
+    let long : length (take k (drop from store)) ≡ k = simp (length-take, length-drop) (omega arith) in
+    part_written from k area store (el ∙ long)
+    ∙ ap₂ (λ n xs. put_part n xs store) ef (e ∙ ap (image_words image) (long ∙ ek))
 
 pub loaded_shown :
     (store store' : List ℕ) (slots slots' : Slots) (table : List Buffer) (d : Devices) (p base size : ℕ) (image : List ℕ)

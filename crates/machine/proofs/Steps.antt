@@ -1,5 +1,5 @@
 -- From what the code does to the steps of a turn.
-use Rattle.std.proofs.Common.{◌≡◌, ℕ, ◌+◌, ◌^◌, ◌<◌, ◌≤◌, Bool, true, false, cond, not, ltb, length, is_some, Some, None, Ok, Err, Option, Result, sym, refl, ap, ◌∙◌, ap₂, arith}
+use Rattle.std.proofs.Common.{◌≡◌, ℕ, ◌+◌, ◌^◌, ◌<◌, ◌≤◌, Bool, true, false, cond, not, ltb, length, is_some, Some, None, Err, Option, Result, sym, refl, ap, ◌∙◌, ap₂}
 use Rattle.std.proofs.Math.Numerals.{suc-eq-add-one}
 use Rattle.std.proofs.lemmas.Bool.{cond-true, cond-false, le-ltb, ltb-false}
 use Rattle.device.specs.Meaning.{Meaning}
@@ -23,12 +23,11 @@ use Rattle.host.specs.Steps.StepAnswer.{gave, turned_down}
 use Rattle.host.specs.declared.cause.Ending.{Ending as ToldEnding}
 use Rattle.host.proofs.Lens.{update_same, update_twice}
 use Rattle.host.proofs.Stepping.{Granted, step_passes, put_own, steps_stay, turn_is_steps}
-use Rattle.slots.specs.Ahead.{seen, ahead_of}
+use Rattle.slots.specs.Ahead.{ahead_of}
 use Rattle.slots.specs.Held.{halted, state_of, ready_or_stopped}
-use Rattle.slots.specs.declared.slots.Ahead.{Ahead}
-use Rattle.slots.specs.declared.slots.Ahead.TheVariants.{NoStore, Breaks, Does}
 use Rattle.slots.specs.declared.slots.State.{State}
 use Rattle.slots.specs.declared.slots.State.TheVariants.{Empty, Ready, Stopped}
+use Rattle.slots.proofs.Orders.{given, withheld}
 use Rattle.machine.specs.Settled.{Settled, stopped_in}
 
 -- a step that gives the turn's cause again, and one that is turned down
@@ -47,28 +46,7 @@ abbrev pub answers_state : ℕ → World → Option State
 answers_state p w = cond (ltb 3 p) None (Some (state_of (w.slots p)))
 
 pub fails_over : (p : ℕ) (w : World) → None ≡ answers_state p w → first_failing (step_checks p w) ≡ Some 1
-fails_over p w e = cond-true (ltb 3 p) (Some 1) _ (over (ltb 3 p) (state_of (w.slots p)) e)
-  where
-    over : (b : Bool) (x : State) → None ≡ cond b None (Some x) → b ≡ true
-    over true x e = refl
-    over false x e = let z : ◌≡◌ {A = ℕ} 0 1 = cc in absurd (omega arith)
-
--- a state is given for a number up to 3, and it is the slot's
-state_given : (b : Bool) (s x : State) → Some s ≡ cond b None (Some x) → (b ≡ false) × (s ≡ x)
-state_given true s x e = let z : ◌≡◌ {A = ℕ} 0 1 = cc in absurd (omega arith)
-state_given false s x e = (refl, cc)
-
-never_empty : (b : Bool) → Empty ≡ ready_or_stopped b → ⊥
-never_empty true e = let z : ◌≡◌ {A = ℕ} 0 1 = cc in omega arith
-never_empty false e = let z : ◌≡◌ {A = ℕ} 0 1 = cc in omega arith
-
-is_ready : (b : Bool) → Ready ≡ ready_or_stopped b → b ≡ true
-is_ready true e = refl
-is_ready false e = let z : ◌≡◌ {A = ℕ} 0 1 = cc in absurd (omega arith)
-
-not_ready : (b : Bool) → Stopped ≡ ready_or_stopped b → b ≡ false
-not_ready true e = let z : ◌≡◌ {A = ℕ} 0 1 = cc in absurd (omega arith)
-not_ready false e = refl
+fails_over p w e = cond-true (ltb 3 p) (Some 1) _ (withheld (ltb 3 p) (state_of (w.slots p)) e)
 
 -- the first check of a step that fails, but for that of the number, by what is in the slot
 abbrev checks_of : ℕ → Option Program → Option ℕ
@@ -79,21 +57,29 @@ checked_as p w o b there = cond-false (ltb 3 p) (Some 1) _ b ∙ ap (checks_of (
 
 pub fails_empty : (p : ℕ) (w : World) → Some Empty ≡ answers_state p w → first_failing (step_checks p w) ≡ Some 10
 fails_empty p w e =
-    let a = state_given (ltb 3 p) Empty (state_of (w.slots p)) e in
-    at (w.slots p) refl a.0 a.1
+    let a = given (ltb 3 p) Empty (state_of (w.slots p)) e in
+    checked_as p w _ a.0 refl ∙ at (w.slots p) a.1
   where
-    at : (o : Option Program) → w.slots p ≡ o → ltb 3 p ≡ false → Empty ≡ state_of o → first_failing (step_checks p w) ≡ Some 10
-    at None there b s = checked_as p w None b there
-    at (Some g) there b s = absurd (never_empty g.ready s)
+    never : (b : Bool) → Empty ≡ ready_or_stopped b → ⊥
+    never true e = cc
+    never false e = cc
+
+    at : (o : Option Program) → Empty ≡ state_of o → checks_of (length w.store) o ≡ Some 10
+    at None e = refl
+    at (Some g) e = absurd (never g.ready e)
 
 pub fails_stopped : (p : ℕ) (w : World) → Some Stopped ≡ answers_state p w → first_failing (step_checks p w) ≡ Some 15
 fails_stopped p w e =
-    let a = state_given (ltb 3 p) Stopped (state_of (w.slots p)) e in
-    at (w.slots p) refl a.0 a.1
+    let a = given (ltb 3 p) Stopped (state_of (w.slots p)) e in
+    checked_as p w _ a.0 refl ∙ at (w.slots p) a.1
   where
-    at : (o : Option Program) → w.slots p ≡ o → ltb 3 p ≡ false → Stopped ≡ state_of o → first_failing (step_checks p w) ≡ Some 15
-    at None there b s = let z : ◌≡◌ {A = ℕ} 0 1 = cc in absurd (omega arith)
-    at (Some g) there b s = checked_as p w (Some g) b there ∙ cond-true (not g.ready) (Some 15) _ (ap not (not_ready g.ready s))
+    not_ready : (b : Bool) → Stopped ≡ ready_or_stopped b → not b ≡ true
+    not_ready true e = cc
+    not_ready false e = refl
+
+    at : (o : Option Program) → Stopped ≡ state_of o → checks_of (length w.store) o ≡ Some 15
+    at None e = cc
+    at (Some g) e = cond-true (not g.ready) (Some 15) _ (not_ready g.ready e)
 
 -- a program that is ready
 pub record IsReady (p : ℕ) (w : World) : Type 0 where
@@ -104,71 +90,48 @@ pub record IsReady (p : ℕ) (w : World) : Type 0 where
 
 pub ready_there : (p : ℕ) (w : World) → Some Ready ≡ answers_state p w → IsReady p w
 ready_there p w e =
-    let a = state_given (ltb 3 p) Ready (state_of (w.slots p)) e in
+    let a = given (ltb 3 p) Ready (state_of (w.slots p)) e in
     at (w.slots p) refl a.0 a.1
   where
+    is_ready : (b : Bool) → Ready ≡ ready_or_stopped b → b ≡ true
+    is_ready true e = refl
+    is_ready false e = cc
+
     at : (o : Option Program) → w.slots p ≡ o → ltb 3 p ≡ false → Ready ≡ state_of o → IsReady p w
-    at None there b s = let z : ◌≡◌ {A = ℕ} 0 1 = cc in absurd (omega arith)
-    at (Some g) there b s = record { program = g; number = b; there = there; ready = is_ready g.ready s }
+    at None there b e = cc
+    at (Some g) there b e = record { program = g; number = b; there = there; ready = is_ready g.ready e }
 
 -- what the code found ahead of the program in a slot
-abbrev pub FoundAhead : ℕ → World → Ahead → Type 0
-FoundAhead p w a = (ready : Bool) (bank : ℕ → Option Meaning) → p < 4 → a ≡ ahead_of p (w.slots p) w.store w.buffers ready bank
+abbrev pub FoundAhead : ℕ → World → Option (Result Next Bound) → Type 0
+FoundAhead p w a = (ready : Bool) (bank : ℕ → Option Meaning) → a ≡ ahead_of p (w.slots p) w.store w.buffers ready bank
 
-module _ (p : ℕ) (w : World) (a : Ahead) (h : IsReady p w) (found : FoundAhead p w a) where
-  abbrev g : Program
-  g = h.program
+ahead_here : (p : ℕ) (w : World) (a : Option (Result Next Bound)) (h : IsReady p w) → FoundAhead p w a → a ≡ cond (cut_off (length w.store) (Some h.program)) None (Some (foreseen (own_in p h.program w)))
+ahead_here p w a h found = found h.program.ready w.bank ∙ ap (λ o. ahead_of p o w.store w.buffers h.program.ready w.bank) h.there
 
-  ahead_here : a ≡ cond (cut_off (length w.store) (Some g)) NoStore (seen (foreseen (own_in p g w)))
-  ahead_here =
-      found g.ready w.bank (omega (arith, ltb-false 3 p h.number))
-      ∙ ap (λ o. ahead_of p o w.store w.buffers g.ready w.bank) h.there
-
-short : (b : Bool) (r : Result Next Bound) → NoStore ≡ cond b NoStore (seen r) → b ≡ true
-short true r e = refl
-short false (Ok n) e = let z : ◌≡◌ {A = ℕ} 0 1 = cc in absurd (omega arith)
-short false (Err n) e = let z : ◌≡◌ {A = ℕ} 0 1 = cc in absurd (omega arith)
-
-breaks : (b : Bool) (bound : Bound) (r : Result Next Bound) → Breaks bound ≡ cond b NoStore (seen r) → (b ≡ false) × (r ≡ Err bound)
-breaks true bound r e = let z : ◌≡◌ {A = ℕ} 0 1 = cc in absurd (omega arith)
-breaks false bound (Ok n) e = let z : ◌≡◌ {A = ℕ} 0 1 = cc in absurd (omega arith)
-breaks false bound (Err x) e = (refl, cc)
-
-does : (b : Bool) (next : Next) (r : Result Next Bound) → Does next ≡ cond b NoStore (seen r) → b ≡ false
-does true next r e = let z : ◌≡◌ {A = ℕ} 0 1 = cc in absurd (omega arith)
-does false next r e = refl
-
-pub fails_short : (p : ℕ) (w : World) → IsReady p w → FoundAhead p w NoStore → first_failing (step_checks p w) ≡ Some 16
+pub fails_short : (p : ℕ) (w : World) → IsReady p w → FoundAhead p w None → first_failing (step_checks p w) ≡ Some 16
 fails_short p w h found =
-    let b = short _ _ (ahead_here p w NoStore h found) in
     checked_as p w (Some h.program) h.number h.there
     ∙ cond-false (not h.program.ready) (Some 15) _ (ap not h.ready)
-    ∙ cond-true (cut_off (length w.store) (Some h.program)) (Some 16) None b
+    ∙ cond-true (cut_off (length w.store) (Some h.program)) (Some 16) None (withheld _ _ (ahead_here p w None h found))
 
 -- a step that tries an order
 
-granted_as : (p : ℕ) (w : World) (h : IsReady p w) → cut_off (length w.store) (Some h.program) ≡ false → Granted p w
-granted_as p w h b = record {
+pub granted_ahead : (p : ℕ) (w : World) (r : Result Next Bound) → IsReady p w → FoundAhead p w (Some r) → Granted p w
+granted_ahead p w r h found = record {
   program = h.program;
   number = ltb-false 3 p h.number;
   there = h.there;
   ready = h.ready;
-  inside = ltb-false _ _ b;
+  inside = ltb-false _ _ (given _ _ _ (ahead_here p w (Some r) h found)).0;
 }
 
-pub granted_does : (p : ℕ) (w : World) (next : Next) → IsReady p w → FoundAhead p w (Does next) → Granted p w
-granted_does p w next h found = granted_as p w h (does _ next _ (ahead_here p w (Does next) h found))
-
-pub granted_breaks : (p : ℕ) (w : World) (bound : Bound) → IsReady p w → FoundAhead p w (Breaks bound) → Granted p w
-granted_breaks p w bound h found = granted_as p w h (breaks _ bound _ (ahead_here p w (Breaks bound) h found)).0
-
-pub tried_breaks : (p : ℕ) (w : World) (bound : Bound) → IsReady p w → FoundAhead p w (Breaks bound) → ◌≡◌ {A = World × Told} (w, broke bound) (tried_by p w (w.slots p))
+pub tried_breaks : (p : ℕ) (w : World) (bound : Bound) → IsReady p w → FoundAhead p w (Some (Err bound)) → ◌≡◌ {A = World × Told} (w, broke bound) (tried_by p w (w.slots p))
 unfolding try
 tried_breaks p w bound h found =
-    let b = breaks _ bound _ (ahead_here p w (Breaks bound) h found) in
+    let b = given _ _ _ (ahead_here p w (Some (Err bound)) h found) in
     let inside : h.program.base + h.program.size ≤ length w.store = ltb-false _ _ b.0 in
     let q = own_in p h.program w in
-    let e : try q ≡ (q, broke bound) = ap (λ r. tried r q) b.1 in
+    let e : try q ≡ (q, broke bound) = ap (λ r. tried r q) (sym b.1) in
     sym (
     ap (tried_by p w) h.there
     ∙ ap (λ (r : Own × Told). (put p h.program r.0 w, r.1)) e
@@ -234,7 +197,7 @@ pub has_ended : (k n : ℕ) (t u : Token) (w y : World) (o : Option ToldEnding) 
 has_ended k n t u w y o h e same some = at (endings_of o) same (sym (is_some_ending o) ∙ some)
   where
     at : (d : Option Ending) → u.ending ≡ d → is_some d ≡ true → ◌≡◌ {A = World × Token} (y, u) (steps n t w)
-    at None there s = let z : ◌≡◌ {A = ℕ} 0 1 = cc in absurd (omega arith)
+    at None there s = cc
     at (Some d) there s = e ∙ sym (steps_stay k n t w d h (ap (λ (x : World × Token). x.1.ending) (sym e) ∙ there))
 
 -- a whole turn

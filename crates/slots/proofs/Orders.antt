@@ -1,5 +1,5 @@
 -- The next order of the program in a slot.
-use Rattle.std.proofs.Common.{◌≡◌, ℕ, ◌+◌, ◌-◌, ◌<◌, ◌≤◌, ltb, cond, List, length, get_or, take, drop, slice_range, set, Some, None, Ok, Err, Option, Result, Bool, true, false, refl, ap, ap₂, ◌∙◌, sym, inl, inr, arith}
+use Rattle.std.proofs.Common.{◌≡◌, ℕ, ◌+◌, ◌-◌, ◌<◌, ◌≤◌, cond, List, length, get_or, take, drop, slice_range, set, Some, None, Ok, Option, Result, Bool, true, false, refl, ap, ap₂, ◌∙◌, sym, inl, inr, arith}
 use mathlib.Core.Path.{fun_ext}
 use borrow.Rule.Slice.PartMut.{put_mid}
 use Rattle.std.specs.Option.{option_map}
@@ -20,7 +20,7 @@ use Rattle.program.specs.Kept.{Kept, update}
 use Rattle.program.specs.Told.{Told}
 use Rattle.host.specs.Steps.{tried_by}
 use Rattle.host.specs.Turns.{try}
-use Rattle.host.specs.World.{World, Program, part, put, with_own}
+use Rattle.host.specs.World.{World, Program, part, put}
 use Rattle.host.proofs.Lens.{put_back}
 use Rattle.slots.specs.Ahead.{ahead_of}
 use Rattle.slots.specs.Carried.{Carried}
@@ -48,10 +48,16 @@ pub record Known (p : ℕ) (g : Program) (store : List ℕ) (buffers : ℕ → B
   pub inside : g.base + g.size ≤ length store
   pub ahead : (ready : Bool) (bank : ℕ → Option Meaning) → r ≡ foreseen (owning (part g.base g.size store) g.regs ready (lines_of p buffers bank))
 
-given : {X : Type 0} (b : Bool) (x y : X) → ◌≡◌ {A = Option X} (Some x) (cond b None (Some y)) → (b ≡ false) × (x ≡ y)
+-- what a test withholds
+pub given : {X : Type 0} (b : Bool) (x y : X) → ◌≡◌ {A = Option X} (Some x) (cond b None (Some y)) → (b ≡ false) × (x ≡ y)
 given true x y e = cc
 given false x y e = (refl, cc)
 
+pub withheld : {X : Type 0} (b : Bool) (y : X) → ◌≡◌ {A = Option X} None (cond b None (Some y)) → b ≡ true
+withheld true y e = refl
+withheld false y e = cc
+
+-- what the code found ahead
 abbrev FoundAhead : ℕ → Option Program → List ℕ → (ℕ → Buffer) → Result Next Bound → Type 0
 FoundAhead p o store buffers r = (ready : Bool) (bank : ℕ → Option Meaning) → Some r ≡ ahead_of p o store buffers ready bank
 

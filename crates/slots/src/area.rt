@@ -49,23 +49,14 @@ impl Area {
     }
 }
 
-// A byte of an image; past its end they are zeros.
-fn image_byte(image: &[u8], at: usize) -> u64
-    ensures answer { result ≡ slice_index image.now at }
-    ensures within { result < 256 }
-{
-    image.get(at).copied().map_or(0, u64::from)
-}
-
-// Word k of an image: six bytes, the top byte first.
+// Word k of an image: six bytes, the top byte first; past the image's end they are zeros.
 fn word_of(image: &[u8], k: usize) -> u64
     requires { k < 32768 }
     ensures { result ≡ image_word image.now k }
 {
-    let high = (image_byte(image, 6 * k) * 256 + image_byte(image, 6 * k + 1)) * 256
-        + image_byte(image, 6 * k + 2);
-    let next = (high * 256 + image_byte(image, 6 * k + 3)) * 256 + image_byte(image, 6 * k + 4);
-    next * 256 + image_byte(image, 6 * k + 5)
+    let bytes = image.get(6 * k..).unwrap_or(&[]);
+    let byte = |at: usize| bytes.get(at).copied().unwrap_or(0);
+    u64::from_be_bytes([0, 0, byte(0), byte(1), byte(2), byte(3), byte(4), byte(5)])
 }
 
 // Fills an area with an image, then zeros.

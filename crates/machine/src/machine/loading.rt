@@ -1,48 +1,41 @@
 // Loading programs.
-ghost use Rattle.std.specs.Prelude.{◌≡◌, ℕ, ◌+◌, ◌<◌, ◌≤◌, List, length, None};
+ghost use Rattle.std.specs.Prelude.{◌≡◌, ℕ, ◌+◌, ◌<◌, ◌≤◌, List, length, OnOk};
 ghost use Rattle.host.specs.Calls.{perform, refusal};
 ghost use Rattle.host.specs.Calls.Call.{load};
-ghost use Rattle.host.specs.Numbers.{answered, first_number};
+ghost use Rattle.host.specs.Numbers.{answered, refused_by};
 ghost use Rattle.machine.specs.Shown.{shown};
 
 use super::Machine;
 use crate::control::Control;
 use device::bank::Bank;
 use host::refusal::Refusal;
-use slots::area::{fill, is_past, is_unshaped};
+use slots::area::{Area, fill};
 
 impl<B: Bank> Machine<B> {
-    // The first check of a load that fails.
-    fn load_refusal(
-        &self,
-        words: usize,
-        slot: u8,
-        base: u32,
-        size: u32,
-        image: &[u8],
-    ) -> Option<Refusal>
-        ensures within { result ≡ None → (slot < 4) × (base + size ≤ words) × (base + size ≤ 32768) }
-        ensures first { (store : List ℕ) → length store ≡ words → first_number result ≡ refusal (load slot base size image.now) (shown B.devices store self.now) }
+    // The checks of a load into a store of so many words.
+    fn check_load(&self, words: usize, slot: u8, area: Area, image: &[u8]) -> Result<(), Refusal>
+        ensures within { OnOk result ((slot < 4) × (area.base + area.size ≤ words) × (area.base + area.size ≤ 32768)) }
+        ensures first { (store : List ℕ) → length store ≡ words → refused_by result ≡ refusal (load slot area.base area.size image.now) (shown B.devices store self.now) }
     {
         if slot > 3 {
-            return Some(Refusal::SlotOver3);
+            return Err(Refusal::SlotOver3);
         }
-        if is_unshaped(base, size) {
-            return Some(Refusal::AreaShape);
+        if area.is_unshaped() {
+            return Err(Refusal::AreaShape);
         }
-        if is_past(words, base, size) {
-            return Some(Refusal::AreaPast);
+        if area.is_past(words) {
+            return Err(Refusal::AreaPast);
         }
-        if 6 * (size as usize) < image.len() {
-            return Some(Refusal::ImageLong);
+        if 6 * (area.size as usize) < image.len() {
+            return Err(Refusal::ImageLong);
         }
         if self.slots.is_used(slot) {
-            return Some(Refusal::SlotInUse);
+            return Err(Refusal::SlotInUse);
         }
-        if self.slots.overlap(base, size) {
-            return Some(Refusal::AreaOverlaps);
+        if self.slots.overlap(area) {
+            return Err(Refusal::AreaOverlaps);
         }
-        None
+        Ok(())
     }
 
     // Puts a program into an empty slot: its area holds the image and then zeros, and it is ready.
@@ -51,21 +44,14 @@ impl<B: Bank> Machine<B> {
         _control: &Control,
         store: &mut [u64],
         slot: u8,
-        base: u32,
-        size: u32,
+        area: Area,
         image: &[u8],
     ) -> Result<(), Refusal>
-        ensures { ◌≡◌ (shown B.devices store.new self.new, answered result) (perform (load slot base size image.now) (shown B.devices store.old self.old)) }
+        ensures { ◌≡◌ (shown B.devices store.new self.new, answered result) (perform (load slot area.base area.size image.now) (shown B.devices store.old self.old)) }
     {
-        match self.load_refusal(store.len(), slot, base, size, image) {
-            Some(refusal) => Err(refusal),
-            None => {
-                let from = base as usize;
-                let to = from + size as usize;
-                fill(&mut store[from..to], image);
-                self.slots.load(slot, base, size);
-                Ok(())
-            }
-        }
+        self.check_load(store.len(), slot, area, image)?;
+        fill(&mut store[area.range()], image);
+        self.slots.load(slot, area);
+        Ok(())
     }
 }

@@ -9,7 +9,8 @@ ghost use Rattle.machine.specs.Questions.{word_of};
 use super::Machine;
 use device::bank::Bank;
 use registers::registers::Registers;
-use slots::slots::{Area, State};
+use slots::area::Area;
+use slots::slots::State;
 use word::word::Word;
 
 impl<B: Bank> Machine<B> {
@@ -28,8 +29,8 @@ impl<B: Bank> Machine<B> {
     }
 
     // The registers of the program in a slot; nothing without a program.
-    pub fn registers(&self, slot: u8) -> Option<Registers>
-        ensures { option_map regs_of result ≡ asked regs_held self.now.slots slot }
+    pub fn registers(&self, slot: u8) -> Option<&Registers>
+        ensures { option_map (λ r. regs_of r.now) result ≡ asked regs_held self.now.slots slot }
     {
         self.slots.registers(slot)
     }
@@ -39,12 +40,13 @@ impl<B: Bank> Machine<B> {
         ensures { option_map bits_of result ≡ asked (word_of store.now address) self.now.slots slot }
     {
         let area = self.slots.area(slot)?;
-        let at = area.base as usize + address as usize;
-        if (address as u32) < area.size && at < store.len() {
-            Some(Word::new(store[at]))
-        } else {
-            None
+        if u32::from(address) >= area.size {
+            return None;
         }
+        store
+            .get(area.base as usize + usize::from(address))
+            .copied()
+            .map(Word::new)
     }
 
     // The slot that a buffer is allotted to, if any.

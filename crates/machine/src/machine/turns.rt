@@ -3,7 +3,7 @@ ghost use Rattle.std.specs.Prelude.{◌≡◌, ℕ, ◌<◌, List, length, None}
 ghost use Rattle.host.specs.Calls.{perform, refusal};
 ghost use Rattle.host.specs.Calls.Call.{turn};
 ghost use Rattle.host.specs.Causes.{report_of};
-ghost use Rattle.host.specs.Numbers.{reported, first_number};
+ghost use Rattle.host.specs.Numbers.{reported, refused_by};
 ghost use Rattle.host.specs.Steps.{entered, stepped, steps, handed_back};
 ghost use Rattle.program.specs.Told.{told};
 ghost use Rattle.machine.specs.Settled.{Settled};
@@ -16,7 +16,7 @@ use device::bank::Bank;
 use host::cause::{Cause, Ending, Report, done_by, stops};
 use host::refusal::Refusal;
 use program::outcome::Outcome;
-use slots::slots::{Ahead, State};
+use slots::slots::State;
 
 impl<B: Bank> Machine<B> {
     // A turn for a slot of any number. It uses the control up.
@@ -39,14 +39,8 @@ impl<B: Bank> Machine<B> {
         if stops(outcome) {
             self.slots.stop(turn.slot);
         }
-        turn.ending = match Cause::of(outcome) {
-            Some(cause) => Some(Ending {
-                slot: turn.slot,
-                place,
-                cause,
-            }),
-            None => None,
-        };
+        let slot = turn.slot;
+        turn.ending = Cause::of(outcome).map(|cause| Ending { slot, place, cause });
         turn.orders = turn.orders.saturating_add(done_by(outcome));
     }
 
@@ -65,12 +59,12 @@ impl<B: Bank> Machine<B> {
             (None, None, _) => Err(Refusal::SlotOver3),
             (Some(State::Empty), None, _) => Err(Refusal::SlotEmpty),
             (Some(State::Stopped), None, _) => Err(Refusal::SlotStopped),
-            (Some(State::Ready), None, Ahead::NoStore) => Err(Refusal::StoreShort),
-            (Some(State::Ready), None, Ahead::Breaks(bound)) => {
+            (Some(State::Ready), None, None) => Err(Refusal::StoreShort),
+            (Some(State::Ready), None, Some(Err(bound))) => {
                 self.settle(turn, place, Outcome::Broke(bound));
                 Ok(turn.ending)
             }
-            (Some(State::Ready), None, Ahead::Does(next)) => {
+            (Some(State::Ready), None, Some(Ok(next))) => {
                 let outcome = self
                     .slots
                     .carry(slot, next, store, &mut self.buffers, &mut self.bank);
@@ -84,7 +78,7 @@ impl<B: Bank> Machine<B> {
     fn run(&mut self, turn: &mut Turn, store: &mut [u64], n: u32)
         ensures { ◌≡◌ (shown B.devices store.new self.new, token_of turn.new) (steps n (token_of turn.old) (shown B.devices store.old self.old)) }
     {
-        for k in 0..n {
+        for _ in 0..n {
             if turn.ending.is_some() {
                 return;
             }
@@ -101,32 +95,24 @@ impl<B: Bank> Machine<B> {
             ending,
             orders,
         } = turn;
-        let ending = match ending {
-            Some(ending) => ending,
-            None => Ending {
-                slot,
-                place: self.slots.place(slot),
-                cause: Cause::Count,
-            },
-        };
+        let ending = ending.unwrap_or_else(|| Ending {
+            slot,
+            place: self.slots.place(slot),
+            cause: Cause::Count,
+        });
         (Report { ending, orders }, Control { seal: () })
     }
 
-    // The first check of a step that fails, over a store of so many words.
-    fn step_refusal(&self, words: usize, slot: u8) -> Option<Refusal>
-        ensures { (n : ℕ) (store : List ℕ) → length store ≡ words → first_number result ≡ refusal (turn slot n) (shown B.devices store self.now) }
+    // The checks of a step over a store of so many words.
+    fn check_step(&self, words: usize, slot: u8) -> Result<(), Refusal>
+        ensures { (n : ℕ) (store : List ℕ) → length store ≡ words → refused_by result ≡ refusal (turn slot n) (shown B.devices store self.now) }
     {
         match self.slots.state(slot) {
-            None => Some(Refusal::SlotOver3),
-            Some(State::Empty) => Some(Refusal::SlotEmpty),
-            Some(State::Stopped) => Some(Refusal::SlotStopped),
-            Some(State::Ready) => {
-                if slot < 4 && self.slots.is_cut_off(slot, words) {
-                    Some(Refusal::StoreShort)
-                } else {
-                    None
-                }
-            }
+            None => Err(Refusal::SlotOver3),
+            Some(State::Empty) => Err(Refusal::SlotEmpty),
+            Some(State::Stopped) => Err(Refusal::SlotStopped),
+            Some(State::Ready) if self.slots.is_cut_off(slot, words) => Err(Refusal::StoreShort),
+            Some(State::Ready) => Ok(()),
         }
     }
 
@@ -140,14 +126,12 @@ impl<B: Bank> Machine<B> {
     ) -> (Result<Report, Refusal>, Control)
         ensures { ◌≡◌ (shown B.devices store.new self.new, reported result.0) (perform (turn slot n) (shown B.devices store.old self.old)) }
     {
-        match self.step_refusal(store.len(), slot) {
-            Some(refusal) => (Err(refusal), control),
-            None => {
-                let mut turn = self.enter(control, slot);
-                self.run(&mut turn, store, n);
-                let (report, control) = self.hand_back(turn);
-                (Ok(report), control)
-            }
+        if let Err(refusal) = self.check_step(store.len(), slot) {
+            return (Err(refusal), control);
         }
+        let mut turn = self.enter(control, slot);
+        self.run(&mut turn, store, n);
+        let (report, control) = self.hand_back(turn);
+        (Ok(report), control)
     }
 }

@@ -4,6 +4,6 @@ use Rattle.host.specs.Steps.{Token, steps}
 use Rattle.machine.specs.Shown.{shown, token_of}
 use Rattle.machine.proofs.machine.Machine.run.Given as goal
 
-abbrev pub invariant-loop-k : goal.invariant-loop-k
-invariant-loop-k g l =
-    ◌≡◌ {A = World × Token} (shown g.B.Bank.devices l.store l.self, token_of l.turn) (steps l.k (token_of l.fn.turn) (shown g.B.Bank.devices l.fn.store l.fn.self))
+abbrev pub invariant-loop : goal.invariant-loop
+invariant-loop g l =
+    ◌≡◌ {A = World × Token} (shown g.B.Bank.devices l.store l.self, token_of l.turn) (steps l.counter (token_of l.fn.turn) (shown g.B.Bank.devices l.fn.store l.fn.self))

@@ -1,11 +1,12 @@
-use Rattle.std.proofs.Common.{◌≡◌, Some, ap, ◌∙◌, sym}
+use Rattle.std.proofs.Common.{◌≡◌, ℕ, Bool, Option, Some, None, Ok, Err, ap, ◌∙◌, sym}
+use Rattle.device.specs.Meaning.{Meaning}
 use Rattle.slots.specs.Held.{world_of}
 use Rattle.slots.specs.declared.slots.State.TheVariants.{Empty, Ready, Stopped}
 use Rattle.program.specs.Told.{told}
 use Rattle.program.specs.Told.Told.{broke}
 use Rattle.host.specs.Causes.{ending_of, endings_of}
 use Rattle.machine.specs.Shown.{shown, token_of}
-use Rattle.machine.proofs.Steps.{given_again, refused_step, fails_over, fails_empty, fails_stopped, fails_short, ready_there, granted_does, granted_breaks, tried_breaks, step_settled}
+use Rattle.machine.proofs.Steps.{given_again, refused_step, fails_over, fails_empty, fails_stopped, fails_short, ready_there, granted_ahead, tried_breaks, step_settled}
 use Rattle.machine.proofs.machine.Machine.step.Goals as goal
 
 pub returns-in_default-Some-default : goal.returns-in_default-Some-default
@@ -32,33 +33,36 @@ returns-in-Some-Stopped-None-default g c =
     refused_step (token_of c.args.turn.now) w 15 (ap endings_of c.in-Some-Stopped-None-default.is-1)
     (fails_stopped c.args.turn.now.slot w (sym s ∙ c.state.ensures))
 
-pub returns-in-Some-Ready-None-NoStore : goal.returns-in-Some-Ready-None-NoStore
-returns-in-Some-Ready-None-NoStore g c =
+pub returns-in-Some-Ready-None-None : goal.returns-in-Some-Ready-None-None
+returns-in-Some-Ready-None-None g c =
     let s : c.state.result ≡ Some Ready = cc in
+    let a : c.ahead.result ≡ None = cc in
     let w = shown g.B.Bank.devices c.args.store.now c.args.self.now in
     let h = ready_there c.args.turn.now.slot w (sym s ∙ c.state.ensures) in
-    refused_step (token_of c.args.turn.now) w 16 (ap endings_of c.in-Some-Ready-None-NoStore.is-1)
-    (fails_short c.args.turn.now.slot w h c.in-Some-Ready-None-NoStore.ensures')
+    refused_step (token_of c.args.turn.now) w 16 (ap endings_of c.in-Some-Ready-None-None.is-1)
+    (fails_short c.args.turn.now.slot w h (λ ready bank. sym a ∙ c.ahead.ensures ready bank))
 
-pub returns-in-Some-Ready-None-Breaks : goal.returns-in-Some-Ready-None-Breaks
-returns-in-Some-Ready-None-Breaks g c =
+pub returns-in-Some-Ready-None-Some-Err : goal.returns-in-Some-Ready-None-Some-Err
+returns-in-Some-Ready-None-Some-Err g c =
     let s : c.state.result ≡ Some Ready = cc in
     let t = c.args.turn.now in
     let w = shown g.B.Bank.devices c.args.store.now c.args.self.now in
-    let b = c.in-Some-Ready-None-Breaks.bound in
+    let b = c.in-Some-Ready-None-Some-Err.bound in
     let h = ready_there t.slot w (sym s ∙ c.state.ensures) in
-    let found = c.in-Some-Ready-None-Breaks.ensures' in
+    let a : c.ahead.result ≡ Some (Err b) = cc in
+    let found = λ (ready : Bool) (bank : ℕ → Option Meaning). sym a ∙ c.ahead.ensures ready bank in
     step_settled (token_of t) (token_of c.settle.new.turn) w w (shown g.B.Bank.devices c.args.store.now c.settle.new.self) (broke b) c.place-place.result
-    (granted_breaks t.slot w b h found) (ap endings_of c.in-Some-Ready-None-Breaks.is-1) (tried_breaks t.slot w b h found) c.place-place.ensures (c.settle.ensures c.args.store.now)
+    (granted_ahead t.slot w (Err b) h found) (ap endings_of c.in-Some-Ready-None-Some-Err.is-1) (tried_breaks t.slot w b h found) c.place-place.ensures (c.settle.ensures c.args.store.now)
 
-pub returns-in-Some-Ready-None-Does : goal.returns-in-Some-Ready-None-Does
-returns-in-Some-Ready-None-Does g c =
+pub returns-in-Some-Ready-None-Some-Ok : goal.returns-in-Some-Ready-None-Some-Ok
+returns-in-Some-Ready-None-Some-Ok g c =
     let s : c.state.result ≡ Some Ready = cc in
     let t = c.args.turn.now in
     let w = shown g.B.Bank.devices c.args.store.now c.args.self.now in
     let h = ready_there t.slot w (sym s ∙ c.state.ensures) in
-    let found = c.in-Some-Ready-None-Does.ensures' in
+    let a : c.ahead.result ≡ Some (Ok c.in-Some-Ready-None-Some-Ok.next) = cc in
     let carried = world_of c.carry-outcome.new.store c.carry-outcome.new.self c.carry-outcome.new.buffers.table (g.B.Bank.devices c.carry-outcome.new.bank) in
-    step_settled (token_of t) (token_of c.settle-in-Some-Ready-None-Does.new.turn) w carried
-    (shown g.B.Bank.devices c.carry-outcome.new.store c.settle-in-Some-Ready-None-Does.new.self) (told c.carry-outcome.result) c.place-place.result
-    (granted_does t.slot w c.in-Some-Ready-None-Does.next h found) (ap endings_of c.in-Some-Ready-None-Does.is-1) c.carry-outcome.ensures c.place-place.ensures (c.settle-in-Some-Ready-None-Does.ensures c.carry-outcome.new.store)
+    let settled = c.settle-in-Some-Ready-None-Some-Ok in
+    step_settled (token_of t) (token_of settled.new.turn) w carried
+    (shown g.B.Bank.devices c.carry-outcome.new.store settled.new.self) (told c.carry-outcome.result) c.place-place.result
+    (granted_ahead t.slot w (Ok c.in-Some-Ready-None-Some-Ok.next) h (λ ready bank. sym a ∙ c.ahead.ensures ready bank)) (ap endings_of c.in-Some-Ready-None-Some-Ok.is-1) c.carry-outcome.ensures c.place-place.ensures (settled.ensures c.carry-outcome.new.store)

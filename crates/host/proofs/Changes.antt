@@ -16,10 +16,10 @@ use Rattle.order.specs.declared.code.Undecoded.{Undecoded}
 use Rattle.registers.specs.Registers.{q_of, with_place}
 use Rattle.store_orders.specs.State.{State, state, on_regs}
 use Rattle.store_orders.specs.Effects.{on_store, on_indexed}
-use Rattle.transfer.specs.Moves.{Effect, effect}
+use Rattle.transfer.specs.Moves.{Effect, effect, in_turn}
 use Rattle.transfer.specs.declared.moves.Transfer.{Transfer as MovingKind}
 use Rattle.transfer.specs.declared.moves.Transfer.TheVariants as kind
-use Rattle.transfer.proofs.Effects.{effect_length}
+use Rattle.transfer.proofs.Effects.{in_turn_length}
 use Rattle.buffers.specs.declared.buffer.Work.{Work}
 use Rattle.buffers.specs.declared.buffer.Work.TheVariants.{Seeking, Moving}
 use Rattle.outlook.specs.Own.{Own, Line, line_work, line_device, lines_locked}
@@ -112,13 +112,14 @@ indexed_words indexed.PutHalf k q s = length-set s.area _ _
 -- orders that transfer
 
 move_changes : (k : MovingKind) (q : Q) (place : ℕ) (o : Own) → is_some (o.lines q.c) ≡ true → Unlocked o (work_by k q) → Changes o (moved_by k q place o).0
+unfolding in_turn
 move_changes k q place o its free = at (effect (move_by k q) o.area (line_device (o.lines q.c))).refusal
   where
     e : Effect
     e = effect (move_by k q) o.area (line_device (o.lines q.c))
 
     long : length (effect (move_by k q) o.area (line_device (o.lines q.c))).area ≡ length o.area
-    long = effect_length (move_by k q) o.area (line_device (o.lines q.c))
+    long = in_turn_length (move_by k q ∷ []) o.area (line_device (o.lines q.c))
 
     at : (why : Option String) → Changes o (ended k q place o (effect (move_by k q) o.area (line_device (o.lines q.c))) why).0
     at None = record { words = long; lines = inr (record { buffer = q.c; line = _; is = refl; its = its; begins = inr free }) }

@@ -1,4 +1,3 @@
 pub mod Areas
-pub mod Found
 pub mod Orders
 pub mod Overlaps

@@ -13,8 +13,7 @@ use Rattle.outlook.specs.Own.{Own, owning, own_of, lines_of}
 use Rattle.outlook.specs.Outlook.{foreseen}
 use Rattle.outlook.specs.declared.bound.Bound.{Bound}
 use Rattle.outlook.specs.declared.next.Next.{Next}
-use Rattle.registers.specs.declared.registers.Registers.{Registers}
-use Rattle.registers.specs.Registers.{regs_of}
+use Rattle.registers.specs.Registers.{Regs}
 use Rattle.program.specs.Effects.{tried, carried}
 use Rattle.program.specs.Kept.{Kept, update}
 use Rattle.program.specs.Told.{Told}
@@ -90,16 +89,15 @@ tried_is o q next x e f = ap (λ r. tried r o) (sym e) ∙ f
 
 -- from what carrying the order out did to a program's registers and its area
 pub carried_out :
-    (p : ℕ) (g : Program) (regs old : Registers) (store area : List ℕ) (buffers buffers' : ℕ → Buffer) (bank bank' : ℕ → Option Meaning) (next : Next) (x : Told)
-    → regs_of old ≡ g.regs
+    (p : ℕ) (g : Program) (regs : Regs) (store area : List ℕ) (buffers buffers' : ℕ → Buffer) (bank bank' : ℕ → Option Meaning) (next : Next) (x : Told)
     → length area ≡ g.size
-    → ((ready : Bool) (bank : ℕ → Option Meaning) → Ok next ≡ foreseen (own_of p old (part g.base g.size store) ready buffers bank))
-    → ((ready : Bool) → carried next (own_of p old (part g.base g.size store) ready buffers bank) ≡ (own_of p regs area ready buffers' bank', x))
+    → ((ready : Bool) (bank : ℕ → Option Meaning) → Ok next ≡ foreseen (own_of p g.regs (part g.base g.size store) ready buffers bank))
+    → ((ready : Bool) → carried next (own_of p g.regs (part g.base g.size store) ready buffers bank) ≡ (own_of p regs area ready buffers' bank', x))
     → Kept p buffers buffers' bank bank'
-    → Carried p g (record { base = g.base; size = g.size; regs = regs_of regs; ready = g.ready }) store (put_mid g.base g.size store area) buffers buffers' bank bank' x
-carried_out p g regs old store area buffers buffers' bank bank' next x er long known own kept = record {
+    → Carried p g (record { base = g.base; size = g.size; regs = regs; ready = g.ready }) store (put_mid g.base g.size store area) buffers buffers' bank bank' x
+carried_out p g regs store area buffers buffers' bank bank' next x long known own kept = record {
   owns = own_of p regs area g.ready buffers' bank';
-  tried = ap (λ r. try (owning (part g.base g.size store) r g.ready (lines_of p buffers bank))) (sym er) ∙ tried_is _ _ next x (known g.ready bank) (own g.ready);
+  tried = tried_is _ _ next x (known g.ready bank) (own g.ready);
   then = refl;
   stored = part_written g.base g.size area store long;
   lines = refl;

@@ -9,7 +9,7 @@ use Rattle.buffers.specs.Buffers.{any_below}
 use Rattle.host.specs.Calls.{meets, overlaps}
 use Rattle.slots.specs.Held.{program_of}
 use Rattle.slots.specs.declared.slots.Program.{Program}
-use Rattle.slots.proofs.Found.{any_in}
+use Rattle.buffers.proofs.Found.{any_in}
 
 -- what an iterator over a `&Option` gives: what is there, once
 pub option_yields : {A : Type 0} {s : _} (o : Option A) → option_iter_item s ≡ o → option_iter_done s ≡ false → YieldsList option_iter_steps (λ y. y.now) s (option_to_list o)

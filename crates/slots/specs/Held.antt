@@ -8,7 +8,7 @@
 -- asked        what a question answers of a slot by number; area_of, regs_held: two such questions
 use Rattle.std.specs.Prelude.{ℕ, Bool, true, false, cond, not, List, Some, None, Option, option_map, nat_lt, slice_index_or}
 use Rattle.device.specs.Bank.{Devices, standing}
-use Rattle.registers.specs.Registers.{Regs, regs_of}
+use Rattle.registers.specs.Registers.{Regs}
 use Rattle.buffers.specs.declared.buffer.Buffer.{Buffer}
 use Rattle.buffers.specs.Buffers.{records}
 use Rattle.host.specs.World.{World, Program}
@@ -19,7 +19,7 @@ use Rattle.slots.specs.declared.slots.Program.{Program as ToldProgram}
 use Rattle.slots.specs.declared.slots.Slots.{Slots}
 
 abbrev pub program_of : ToldProgram → Program
-program_of g = record { base = g.area.base; size = g.area.size; regs = regs_of g.registers; ready = not g.stopped }
+program_of g = record { base = g.area.base; size = g.area.size; regs = g.registers; ready = not g.stopped }
 
 abbrev pub program_at : Slots → ℕ → Option Program
 program_at s p = option_map program_of (slice_index_or s.table p None)

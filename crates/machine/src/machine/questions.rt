@@ -1,7 +1,7 @@
 // What a host can ask, without changing anything.
-ghost use Rattle.std.specs.Prelude.{◌≡◌};
+ghost use Rattle.std.specs.Prelude.{◌≡◌, option_copied};
 ghost use Rattle.std.specs.Option.{option_map};
-ghost use Rattle.registers.specs.Registers.{regs_of, bits_of};
+ghost use Rattle.registers.specs.Registers.{bits_of};
 ghost use Rattle.buffers.specs.Buffers.{records, is_busy};
 ghost use Rattle.slots.specs.Held.{asked, state_is, area_of, regs_held};
 ghost use Rattle.machine.specs.Questions.{word_of};
@@ -30,7 +30,7 @@ impl<B: Bank> Machine<B> {
 
     // The registers of the program in a slot; nothing without a program.
     pub fn registers(&self, slot: u8) -> Option<&Registers>
-        ensures { option_map (λ r. regs_of r.now) result ≡ asked regs_held self.now.slots slot }
+        ensures { option_copied result ≡ asked regs_held self.now.slots slot }
     {
         self.slots.registers(slot)
     }

@@ -27,19 +27,23 @@ impl Slots {
 
     // A program goes.
     pub fn clear(&mut self, p: u8)
-        requires { p < 4 }
         ensures { (k : ℕ) → program_at self.new k ≡ update (program_at self.old) p None k }
     {
-        self.table[usize::from(p)] = None;
+        let p = usize::from(p);
+        if p < self.table.len() {
+            self.table[p] = None;
+        }
     }
 
     // A program is stopped.
     pub fn stop(&mut self, p: u8)
-        requires { p < 4 }
         ensures { (k : ℕ) → program_at self.new k ≡ update (program_at self.old) p (halted (program_at self.old p)) k }
     {
-        if let Some(program) = &mut self.table[usize::from(p)] {
-            program.stopped = true;
+        let p = usize::from(p);
+        if p < self.table.len() {
+            if let Some(program) = &mut self.table[p] {
+                program.stopped = true;
+            }
         }
     }
 }

@@ -1,7 +1,5 @@
 // What can be asked of the slots.
 ghost use Rattle.std.specs.Prelude.{◌≡◌, is_some, None, Option, option_copied, slice_index_or};
-ghost use Rattle.std.specs.Option.{option_map};
-ghost use Rattle.registers.specs.Registers.{regs_of};
 ghost use Rattle.host.specs.Calls.{overlaps, cut_off};
 ghost use Rattle.host.specs.Steps.{place_of};
 ghost use Rattle.slots.specs.Held.{program_at, asked, state_is, area_of, regs_held};
@@ -67,7 +65,7 @@ impl Slots {
 
     // The registers of the program in a slot, if one is there.
     pub fn registers(&self, p: u8) -> Option<&Registers>
-        ensures { option_map (λ r. regs_of r.now) result ≡ asked regs_held self.now p }
+        ensures { option_copied result ≡ asked regs_held self.now p }
     {
         self.program(p).map(|program| &program.registers)
     }

@@ -20,6 +20,6 @@ returns g c =
     let n : c.range.result.end - c.range.result.start ≡ s.area.size = omega arith in
     let long : length c.carry_next.new.area ≡ s.area.size = c.carry_next.auto.area ∙ simp (length-take, length-drop) (omega (arith, c.requires.inside)) in
     rw (n, c.range.ensures.start)
-    (carried_out c.args.p (program_of s) c.carry_next.new.regs s.registers c.args.store.now c.carry_next.new.area
+    (carried_out c.args.p (program_of s) c.carry_next.new.regs c.args.store.now c.carry_next.new.area
     (records c.args.buffers.now.table) (records c.carry_next.new.buffers.table) (standing (g.B.Bank.devices c.args.bank.now)) (standing (g.B.Bank.devices c.carry_next.new.bank))
-    c.args.next (told c.carry_next.result) refl long c.requires.ahead (λ ready. rw (n, c.range.ensures.start) at (c.carry_next.ensures.own ready)) c.carry_next.ensures.kept)
+    c.args.next (told c.carry_next.result) long c.requires.ahead (λ ready. rw (n, c.range.ensures.start) at (c.carry_next.ensures.own ready)) c.carry_next.ensures.kept)

@@ -105,23 +105,24 @@ carried_out p g regs store area buffers buffers' bank bank' next x long known ow
 }
 
 -- the programs of a table with one changed
-pub one_set : (t : List (Option ToldProgram)) (p : ℕ) (o : Option ToldProgram) (k : ℕ) → p < length t
-    → option_map program_of (get_or (set t p o) k None) ≡ update (λ j. option_map program_of (get_or t j None)) p (option_map program_of o) k
-one_set t p o k h = grind (arith, common_steps, nat_tests)
+pub one_set : (t : List (Option ToldProgram)) (i p : ℕ) (o : Option ToldProgram) (k : ℕ) → i ≡ p → p < length t
+    → option_map program_of (get_or (set t i o) k None) ≡ update (λ j. option_map program_of (get_or t j None)) p (option_map program_of o) k
+one_set t i p o k e h = grind (arith, common_steps, nat_tests)
 
 -- the world of slots with one changed
 pub carried_world :
-    (p : ℕ) (t : List (Option ToldProgram)) (g : Program) (g' : ToldProgram) (store store' : List ℕ) (buffers buffers' : ℕ → Buffer) (bank bank' : ℕ → Option Meaning) (x : Told)
+    (p i : ℕ) (t : List (Option ToldProgram)) (g : Program) (g' : ToldProgram) (store store' : List ℕ) (buffers buffers' : ℕ → Buffer) (bank bank' : ℕ → Option Meaning) (x : Told)
+    → i ≡ p
     → p < length t
     → option_map program_of (get_or t p None) ≡ Some g
     → Carried p g (program_of g') store store' buffers buffers' bank bank' x
     → ◌≡◌ {A = World × Told}
-    (record { store = store'; slots = λ k. option_map program_of (get_or (set t p (Some g')) k None); buffers = buffers'; bank = bank' }, x)
+    (record { store = store'; slots = λ k. option_map program_of (get_or (set t i (Some g')) k None); buffers = buffers'; bank = bank' }, x)
     (tried_by p (record { store = store; slots = λ k. option_map program_of (get_or t k None); buffers = buffers; bank = bank }) (option_map program_of (get_or t p None)))
-carried_world p t g g' store store' buffers buffers' bank bank' x h there c =
+carried_world p i t g g' store store' buffers buffers' bank bank' x e h there c =
     ap (λ w. (w, x))
-    (put_back p g before c.owns store' (λ k. option_map program_of (get_or (set t p (Some g')) k None)) buffers' bank' c.kept c.stored
-    (fun_ext (λ k. one_set t p (Some g') k h ∙ ap (λ y. update before.slots p (Some y) k) c.then)) c.lines)
+    (put_back p g before c.owns store' (λ k. option_map program_of (get_or (set t i (Some g')) k None)) buffers' bank' c.kept c.stored
+    (fun_ext (λ k. one_set t i p (Some g') k e h ∙ ap (λ y. update before.slots p (Some y) k) c.then)) c.lines)
     ∙ ap (λ (r : Own × Told). (put p g r.0 before, r.1)) (sym c.tried)
     ∙ ap (tried_by p before) (sym there)
   where

@@ -1,4 +1,6 @@
 // The slots P, Q, R and S, numbered 0 to 3.
+ghost use Rattle.std.specs.Prelude.{◌≡◌, length};
+
 use crate::area::Area;
 use registers::registers::Registers;
 
@@ -26,4 +28,5 @@ pub struct Program {
 #[derive(Drop)]
 pub struct Slots {
     table: [Option<Program>; 4],
+    ghost four: { length table ≡ 4 },
 }

@@ -69,8 +69,7 @@ impl<B: Bank> Machine<B> {
 
     // The checks of a dismissal.
     fn check_dismiss(&self, slot: u8) -> Result<(), Refusal>
-        ensures within { OnOk result (slot < 4) }
-        ensures first { (store : List ℕ) → refused_by result ≡ refusal (dismiss slot) (shown B.devices store self.now) }
+        ensures { (store : List ℕ) → refused_by result ≡ refusal (dismiss slot) (shown B.devices store self.now) }
     {
         if slot > 3 {
             return Err(Refusal::SlotOver3);

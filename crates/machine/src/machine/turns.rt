@@ -1,5 +1,5 @@
 // Entering a slot, stepping its program, and handing back; and whole turns.
-ghost use Rattle.std.specs.Prelude.{◌≡◌, ℕ, ◌<◌, List, length, None};
+ghost use Rattle.std.specs.Prelude.{◌≡◌, ℕ, List, length};
 ghost use Rattle.host.specs.Calls.{perform, refusal};
 ghost use Rattle.host.specs.Calls.Call.{turn};
 ghost use Rattle.host.specs.Causes.{report_of};
@@ -33,7 +33,6 @@ impl<B: Bank> Machine<B> {
 
     // What an order at a place came to is noted in its turn, and stops its program where it has to.
     fn settle(&mut self, turn: &mut Turn, place: u16, outcome: Outcome)
-        requires { turn.old.slot < 4 }
         ensures { (store : List ℕ) → Settled place (told outcome) (token_of turn.old) (token_of turn.new) (shown B.devices store self.old) (shown B.devices store self.new) }
     {
         if stops(outcome) {

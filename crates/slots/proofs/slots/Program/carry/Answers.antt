@@ -1,4 +1,4 @@
-use Rattle.std.proofs.Common.{◌≡◌, ◌-◌, length, refl, ◌∙◌, arith, length-drop, length-take}
+use Rattle.std.proofs.Common.{◌≡◌, ◌-◌, length, ◌∙◌, arith, length-drop, length-take}
 use Rattle.buffers.specs.Buffers.{records}
 use Rattle.device.specs.Bank.{standing}
 use Rattle.host.specs.World.{part}

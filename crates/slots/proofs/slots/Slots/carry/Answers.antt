@@ -38,7 +38,6 @@ carry-requires g c =
 pub returns : goal.returns
 returns g c =
     let at = ahead_at c.args.self.now.table _ c.args.p c.index-self-from.result c.args.store.now (records c.args.buffers.now.table) _ c.from.ensures c.requires.ahead in
-    rw c.from.ensures
-    (carried_world c.args.p c.args.self.now.table (program_of c.in-Some.program) c.carry.new.self c.args.store.now c.carry.new.store
+    carried_world c.args.p _ c.args.self.now.table (program_of c.in-Some.program) c.carry.new.self c.args.store.now c.carry.new.store
     (records c.args.buffers.now.table) (records c.carry.new.buffers.table) (standing (g.B.Bank.devices c.args.bank.now)) (standing (g.B.Bank.devices c.carry.new.bank))
-    (told c.carry.result) at.0 (ap (option_map program_of) (at.1 ∙ c.in-Some.is)) c.carry.ensures)
+    (told c.carry.result) c.from.ensures at.0 (ap (option_map program_of) (at.1 ∙ c.in-Some.is)) c.carry.ensures

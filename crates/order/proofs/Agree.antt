@@ -1,6 +1,7 @@
 -- An order that bytes say has the length and the cells of its command's row: three comparisons over the list, that antt computes at any operands, taken at each of its lines.
-use Rattle.std.proofs.Common.{◌≡◌, ℕ, ◌<◌, Bool, true, false, cond, ◌&&◌, eqb, leb, List, [], ◌∷◌, map, Some, None, Ok, Err, Option, sym, refl, ap, ◌∙◌, subst, ⊎_elim, arith}
-use Rattle.std.proofs.lemmas.Bool.{cases_Bool, cond-true, cond-false, leb-true, and_parts}
+use Rattle.std.proofs.Common.{◌≡◌, ℕ, Bool, true, false, cond, ◌&&◌, eqb, leb, List, [], ◌∷◌, map, Some, None, Ok, Err, Option, sym, refl, ap, ◌∙◌, subst, ⊎_elim, arith}
+use Rattle.std.proofs.lemmas.Bool.Decides.{nat_tests}
+use Rattle.std.proofs.lemmas.Bool.{cases_Bool, cond-true, cond-false}
 use Rattle.order.specs.declared.code.RegisterOrder.{RegisterOrder}
 use Rattle.order.specs.declared.code.RegisterOrder.TheVariants.{Move, Unary, Binary, Control, Q, ShiftByCount, ShiftBy, Exit, Jump, Set, JumpCount, Copy}
 use Rattle.order.specs.declared.code.Order.{Order}
@@ -14,7 +15,7 @@ use Rattle.order.specs.Laws.{Agrees, Agreement}
 
 -- two functions that agree on the forms of the lines agree on each form that is found there
 same_form : {A : Type 0} (f g : Form → A) (c : ℕ) (ls : List Line) (k : Form) → map (λ l. f l.form) ls ≡ map (λ l. g l.form) ls → find (λ l. l.form) c ls ≡ Some k → f k ≡ g k
-same_form f g c [] k e h = let z : ◌≡◌ {A = ℕ} 0 1 = cc in absurd (omega arith)
+same_form f g c [] k e h = cc
 same_form f g c (l ∷ ls) k e h = ⊎_elim
     (λ t. let u = sym (cond-true (eqb c l.command) (Some l.form) (find (λ l. l.form) c ls) t) ∙ h in cc)
     (λ t. same_form f g c ls k (cc) (sym (cond-false (eqb c l.command) (Some l.form) (find (λ l. l.form) c ls) t) ∙ h))
@@ -42,31 +43,25 @@ passes (Indexed o k q) = leb k 15 && leb q 15
 passes (Transfer o q) = leb q 15
 passes Out = true
 
-below : (q : ℕ) → leb q 15 ≡ true → q < 16
-below q h = omega (arith, leb-true q 15 h)
-
-both_below : (k q : ℕ) → (leb k 15 && leb q 15) ≡ true → (k < 16) × (q < 16)
-both_below k q h = let p = and_parts (leb k 15) (leb q 15) h in (below k p.0, below q p.1)
-
 register_within : (o : RegisterOrder) → register_passes o ≡ true → RegisterWithin o
 register_within (Move o) h = tt
 register_within (Unary o) h = tt
 register_within (Binary o) h = tt
 register_within (Control o) h = tt
-register_within (Q o q) h = below q h
-register_within (ShiftByCount s q) h = below q h
+register_within (Q o q) h = grind (arith, nat_tests)
+register_within (ShiftByCount s q) h = grind (arith, nat_tests)
 register_within (ShiftBy s n) h = tt
 register_within (Exit x) h = tt
 register_within (Jump c a) h = tt
 register_within (Set i) h = tt
-register_within (JumpCount t q a) h = below q h
-register_within (Copy p k q) h = both_below k q h
+register_within (JumpCount t q a) h = grind (arith, nat_tests)
+register_within (Copy p k q) h = grind (arith, nat_tests)
 
 within : (o : Order) → passes o ≡ true → Within o
 within (Register o) h = register_within o h
-within (Store o q e) h = below q h
-within (Indexed o k q) h = both_below k q h
-within (Transfer o q) h = below q h
+within (Store o q e) h = grind (arith, nat_tests)
+within (Indexed o k q) h = grind (arith, nat_tests)
+within (Transfer o q) h = grind (arith, nat_tests)
 within Out h = tt
 
 -- the order of a line, at any operands that fit
@@ -82,13 +77,13 @@ made_agrees c x y z f e h =
 -- an answered order is the one that was made, and its operands fit
 answered : (b : Bool) (p o : Order) → cond b (Ok p) (Err Operand) ≡ Ok o → (b ≡ true) × (p ≡ o)
 answered true p o h = (refl, cc)
-answered false p o h = absurd (let n : ◌≡◌ {A = ℕ} 0 1 = cc in omega arith)
+answered false p o h = absurd (cc)
 
 said_agrees : (c x y z : ℕ) (o : Order) (m : Option Form) → form_of c ≡ m → said m x y z ≡ Ok o → Agrees c o
 said_agrees c x y z o (Some f) e h =
     let a = answered (fit f x y) (made f x y z) o h in
     subst (λ (p : Order). Agrees c p) a.1 (made_agrees c x y z f e a.0)
-said_agrees c x y z o None e h = absurd (let n : ◌≡◌ {A = ℕ} 0 1 = cc in omega arith)
+said_agrees c x y z o None e h = absurd (cc)
 
 pub agreement : Agreement
 unfolding order_of

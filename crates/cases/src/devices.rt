@@ -1,4 +1,5 @@
 // The devices of a case, each on its buffer; the buffers from 6 on have none.
+use crate::fault::Fault;
 use device::bank::EmptyBank;
 use device::buffer::BufferNumber;
 use device::code_changer::CodeChanger;
@@ -6,6 +7,7 @@ use device::code_table::CodeTable;
 use device::plugged::Plugged;
 use device::ring_off::RingOff;
 use std::alloc::Global;
+use std::array;
 use units::drum::Drum;
 use units::punch::Punch;
 use units::reader::TapeReader;
@@ -15,26 +17,18 @@ type Drums = Plugged<Drum, Plugged<RingOff<Drum>, Plugged<CodeChanger<Drum>, Emp
 // On 1 a tape reader, on 2 a punch, on 3 a drum, on 4 a drum without its ring, on 5 a drum that shows symbol s as 63 - s.
 pub type Devices = Plugged<TapeReader, Plugged<Punch, Drums>>;
 
-// The table that shows symbol s as 63 - s.
-fn mirror() -> [u8; 64] {
-    let mut shown = [0; 64];
-    for s in 0..64u8 {
-        shown[usize::from(s)] = 63 - s;
-    }
-    shown
-}
-
-fn drums() -> anyhow::Result<Drums> {
-    let changer = CodeChanger::new(CodeTable::new(mirror())?, Drum::new());
-    let changed = Plugged::new(changer, BufferNumber::new(5)?, EmptyBank);
-    let ring_off = Plugged::new(RingOff::new(Drum::new()), BufferNumber::new(4)?, changed);
-    Ok(Plugged::new(Drum::new(), BufferNumber::new(3)?, ring_off))
+fn drums() -> Result<Drums, Fault> {
+    let mirror: [u8; 64] = array::from_fn(|s| 63 - s as u8);
+    let changer = CodeChanger::new(CodeTable::try_from(mirror)?, Drum::new());
+    let changed = Plugged::new(changer, BufferNumber::try_from(5)?, EmptyBank);
+    let ring_off = Plugged::new(RingOff::new(Drum::new()), BufferNumber::try_from(4)?, changed);
+    Ok(Plugged::new(Drum::new(), BufferNumber::try_from(3)?, ring_off))
 }
 
 // The devices, with these frames in the reader.
-pub(crate) fn devices(heap: Global, frames: &[u8]) -> anyhow::Result<Devices> {
+pub(crate) fn devices(heap: Global, frames: &[u8]) -> Result<Devices, Fault> {
     let mut reader = TapeReader::new(heap)?;
     reader.fill(frames)?;
-    let punch = Plugged::new(Punch::new(heap)?, BufferNumber::new(2)?, drums()?);
-    Ok(Plugged::new(reader, BufferNumber::new(1)?, punch))
+    let punch = Plugged::new(Punch::new(heap)?, BufferNumber::try_from(2)?, drums()?);
+    Ok(Plugged::new(reader, BufferNumber::try_from(1)?, punch))
 }

@@ -1,5 +1,6 @@
 // All that the program of a case owns, and how far it came.
 use crate::devices::{Devices, devices};
+use crate::fault::Fault;
 use buffers::table::Buffers;
 use program::attempt::attempt;
 use program::outcome::Outcome;
@@ -25,7 +26,7 @@ pub struct Machine {
 
 impl Machine {
     // An area of 32 zero words, and a reader without tape.
-    pub(crate) fn new(heap: Global) -> anyhow::Result<Machine> {
+    pub(crate) fn new(heap: Global) -> Result<Machine, Fault> {
         Ok(Machine {
             regs: Registers::new(),
             area: vec![in heap; 0; 32]?,
@@ -43,33 +44,24 @@ impl Machine {
             self.before = Some(Vec::from_slice(heap, self.area.as_slice())?);
         }
         for _ in 0..steps {
-            if !self.step() {
+            self.step();
+            if !matches!(self.outcome, Outcome::Done(_)) {
                 break;
             }
         }
         Ok(())
     }
 
-    // Tries an order; whether the next may be tried.
-    fn step(&mut self) -> bool {
-        let area = self.area.as_mut_slice();
+    fn step(&mut self) {
         self.outcome = attempt(
             SLOT,
             &mut self.regs,
-            area,
+            self.area.as_mut_slice(),
             &mut self.buffers,
             &mut self.bank,
         );
-        match self.outcome {
-            Outcome::Done(_) => {
-                self.count = self.count.saturating_add(1);
-                true
-            }
-            Outcome::Out(_) => {
-                self.count = self.count.saturating_add(1);
-                false
-            }
-            Outcome::Broke(_) | Outcome::Refused(_, _, _) => false,
+        if matches!(self.outcome, Outcome::Done(_) | Outcome::Out(_)) {
+            self.count = self.count.saturating_add(1);
         }
     }
 }

@@ -3,18 +3,19 @@
 
 mod cases;
 mod devices;
+mod fault;
 mod found;
 mod given;
 mod machine;
 mod numbers;
-mod outcome_text;
+mod text;
 
 use crate::cases::Cases;
 use std::fs;
 
 fn run(rt: &HostRuntime) -> anyhow::Result<()> {
     let text = fs::read_to_string(rt, "cases.txt")?;
-    let mut cases = Cases::new(rt.alloc())?;
+    let mut cases = Cases::new();
     for (before, line) in text.as_str().lines().enumerate() {
         cases.take(rt, before.wrapping_add(1), line)?;
     }

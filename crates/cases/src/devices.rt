@@ -21,7 +21,11 @@ fn drums() -> Result<Drums, Fault> {
     let mirror: [u8; 64] = array::from_fn(|s| 63 - s as u8);
     let changer = CodeChanger::new(CodeTable::try_from(mirror)?, Drum::new());
     let changed = Plugged::new(changer, BufferNumber::try_from(5)?, EmptyBank);
-    let ring_off = Plugged::new(RingOff::new(Drum::new()), BufferNumber::try_from(4)?, changed);
+    let ring_off = Plugged::new(
+        RingOff::new(Drum::new()),
+        BufferNumber::try_from(4)?,
+        changed,
+    );
     Ok(Plugged::new(Drum::new(), BufferNumber::try_from(3)?, ring_off))
 }
 

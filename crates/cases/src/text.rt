@@ -11,8 +11,7 @@ impl fmt::Display for Text {
             Outcome::Done(0) => write!(f, "done"),
             Outcome::Done(symbols) => write!(f, "done, {symbols} moved"),
             Outcome::Broke(bound) => {
-                let name = bound.violation().name();
-                write!(f, "{name} {} {}", bound.number(), bound.words())
+                write!(f, "{} {} {bound}", bound.violation(), bound.number())
             }
             Outcome::Refused(n, refusal, symbols) => {
                 write!(f, "DEV {n} {refusal}, {symbols} moved")

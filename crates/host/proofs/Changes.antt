@@ -96,18 +96,10 @@ all_kept (b ∷ bs) e = at b.1 refl e (all_kept bs)
 -- orders that transfer nothing
 
 store_words : (x : StoreOrder) (q e : ℕ) (s : State) → length (on_store x q e s).area ≡ length s.area
-store_words store.Fetch q e s = refl
-store_words store.FetchStep q e s = refl
-store_words store.Put q e s = length-set s.area _ _
-store_words store.PutStep q e s = length-set s.area _ _
+store_words x q e s = grind (arith, length-set)
 
 indexed_words : (x : IndexedOrder) (k q : ℕ) (s : State) → length (on_indexed x k q s).area ≡ length s.area
-indexed_words indexed.Fetch k q s = refl
-indexed_words indexed.Put k q s = length-set s.area _ _
-indexed_words indexed.FetchStep k q s = refl
-indexed_words indexed.PutStep k q s = length-set s.area _ _
-indexed_words indexed.FetchHalf k q s = refl
-indexed_words indexed.PutHalf k q s = length-set s.area _ _
+indexed_words x k q s = grind (arith, length-set)
 
 -- orders that transfer
 

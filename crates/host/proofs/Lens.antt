@@ -28,10 +28,7 @@ update_twice f at x y = fun_ext (λ k. elim (cases_eq k at) [
 -- a line put and read again
 
 kept_owner : (h : Bool) (b : Buffer) (l : Option Line) → (cond h (line_put b l) b).owner ≡ b.owner
-kept_owner true b (Some l) = refl
-kept_owner true b None = refl
-kept_owner false b (Some l) = refl
-kept_owner false b None = refl
+kept_owner h b l = grind arith
 
 pub put_holds : (p : ℕ) (g : Program) (o : Own) (w : World) (q k : ℕ) → holds q ((put p g o w).buffers k) ≡ holds q (w.buffers k)
 unfolding put
@@ -39,26 +36,15 @@ put_holds p g o w q k = ap (owner_is q) (kept_owner (holds p (w.buffers k)) (w.b
 
 line_back : (h : Bool) (b : Buffer) (d : Option Meaning) (l : Option Line) → is_some l ≡ h
     → line_if h (cond h (device_put d l) d) (cond h (line_put b l) b).work ≡ l
-line_back true b d (Some l) e = refl
-line_back true b d None e = cc
-line_back false b d (Some l) e = cc
-line_back false b d None e = refl
+line_back h b d l e = grind arith
 
 twice_work : (h : Bool) (b : Buffer) (l m : Option Line) → is_some l ≡ h → is_some m ≡ h
     → cond h (line_put (cond h (line_put b l) b) m) (cond h (line_put b l) b) ≡ cond h (line_put b m) b
-twice_work true b (Some l) (Some m) e f = refl
-twice_work true b (Some l) None e f = cc
-twice_work true b None (Some m) e f = cc
-twice_work true b None None e f = refl
-twice_work false b l m e f = refl
+twice_work h b l m e f = grind arith
 
 twice_device : (h : Bool) (d : Option Meaning) (l m : Option Line) → is_some l ≡ h → is_some m ≡ h
     → cond h (device_put (cond h (device_put d l) d) m) (cond h (device_put d l) d) ≡ cond h (device_put d m) d
-twice_device true d (Some l) (Some m) e f = refl
-twice_device true d (Some l) None e f = cc
-twice_device true d None (Some m) e f = cc
-twice_device true d None None e f = refl
-twice_device false d l m e f = refl
+twice_device h d l m e f = grind arith
 
 -- What is put in a program's place has to fit it: as many words, and a line for each buffer that it has.
 pub record FitsIn (p : ℕ) (g : Program) (w : World) (o : Own) : Type 0 where
@@ -103,8 +89,7 @@ module _ (p : ℕ) (g : Program) (w : World) (o : Own) (fits : FitsIn p g w o) w
 
 -- what a program owns fits its place
 pub line_there : (h : Bool) (d : Option Meaning) (b : Work) → is_some (line_if h d b) ≡ h
-line_there true d b = refl
-line_there false d b = refl
+line_there h d b = grind arith
 
 -- From what the code did to what the program owned: buffers and devices that are another's are as they were, so the
 -- world is the old one with what the program owns now put in place.

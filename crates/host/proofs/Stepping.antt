@@ -39,8 +39,7 @@ pub record Granted (p : ℕ) (w : World) : Type 0 where
   pub inside : program.base + program.size ≤ length w.store
 
 pass : (b : Bool) (n : ℕ) (rest : Option ℕ) → cond b (Some n) rest ≡ None → (b ≡ false) × (rest ≡ None)
-pass true n rest e = cc
-pass false n rest e = (refl, e)
+pass b n rest e = grind arith
 
 pub step_granted : (p : ℕ) (w : World) → first_failing (step_checks p w) ≡ None → Granted p w
 step_granted p w e =
@@ -68,14 +67,10 @@ put_own p g w there inside =
 
 -- a program that was ready and had no cause is ready
 ready_told : (x : Told) → cause_by x ≡ None → stops x ≡ false
-ready_told (done m) e = refl
-ready_told (broke b) e = cc
-ready_told (refused k why m) e = cc
-ready_told (out x) e = refl
+ready_told x e = grind arith
 
 no_cause : (place : ℕ) (c : Option Cause) → stop_at place c ≡ None → c ≡ None
-no_cause place None e = refl
-no_cause place (Some c) e = cc
+no_cause place c e = grind arith
 
 ready_more : (t : Turn) (s : Option Stop) → t.stop ≡ s → (t.stop ≡ None → t.own.ready ≡ true) → (one_more s t).stop ≡ None → (one_more s t).own.ready ≡ true
 ready_more t (Some s) es h e = h e
@@ -91,14 +86,10 @@ ready_orders (suc n) o r e = ready_more (orders n o) (orders n o).stop refl (rea
 
 -- at most one order is done by a step
 done_one : (x : Told) → done_by x ≤ 1
-done_one (done m) = omega arith
-done_one (broke b) = omega arith
-done_one (refused k why m) = omega arith
-done_one (out x) = omega arith
+done_one x = grind arith
 
 counts_more : (n : ℕ) (t : Turn) (s : Option Stop) → t.orders ≤ n → (one_more s t).orders ≤ suc n
-counts_more n t (Some s) h = omega arith
-counts_more n t None h = omega (arith, done_one (try t.own).1)
+counts_more n t s h = grind (arith, done_one)
 
 pub counts_orders : (n : ℕ) (o : Own) → (orders n o).orders ≤ n
 unfolding orders
@@ -114,8 +105,7 @@ abbrev pub token_of : ℕ → Turn → Token
 token_of p t = record { slot = p; ending = ending_by p t.stop; orders = t.orders }
 
 ending_same : (p place : ℕ) (c : Option Cause) → ending_at p place c ≡ ending_by p (stop_at place c)
-ending_same p place None = refl
-ending_same p place (Some c) = refl
+ending_same p place c = grind arith
 
 module _ (p : ℕ) (w : World) (granted : Granted p w) where
   abbrev g : Program

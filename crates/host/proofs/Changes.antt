@@ -1,15 +1,13 @@
 -- What an order changes of what its program owns, for all that concerns other programs: the words of the area, but not how many, and at
 -- most the device and the work of one buffer that is the program's.
-use Rattle.std.proofs.Common.{◌≡◌, ℕ, ◌<◌, ◌≤◌, Bool, true, false, cond, not, ◌||◌, ltb, leb, ◌⊎◌, List, [], ◌∷◌, length, is_some, Some, None, Ok, Err, Option, Result, refl, ap, subst, inl, inr, arith, length-set}
+use Rattle.std.proofs.Common.{◌≡◌, ℕ, ◌<◌, ◌≤◌, Bool, true, false, cond, not, ◌||◌, ltb, leb, ◌⊎◌, List, [], ◌∷◌, length, is_some, Some, None, Ok, Err, Option, Result, refl, subst, inl, inr, arith, length-set}
 use Prim.Native.String.{String}
 use Rattle.std.proofs.lemmas.Bool.{or_parts, ltb-false, leb-false, not-false}
 use Rattle.word.specs.declared.q.Q.{Q}
 use Rattle.order.specs.declared.code.Order.{Order}
 use Rattle.order.specs.declared.code.Order.TheVariants.{Register, Store, Indexed, Transfer, Out}
 use Rattle.order.specs.declared.code.StoreOrder.{StoreOrder}
-use Rattle.order.specs.declared.code.StoreOrder.TheVariants as store
 use Rattle.order.specs.declared.code.IndexedOrder.{IndexedOrder}
-use Rattle.order.specs.declared.code.IndexedOrder.TheVariants as indexed
 use Rattle.order.specs.declared.code.TransferOrder.{TransferOrder}
 use Rattle.order.specs.declared.code.TransferOrder.TheVariants as transfer
 use Rattle.order.specs.declared.code.Undecoded.{Undecoded}
@@ -23,11 +21,9 @@ use Rattle.transfer.proofs.Effects.{in_turn_length}
 use Rattle.buffers.specs.declared.buffer.Work.{Work}
 use Rattle.buffers.specs.declared.buffer.Work.TheVariants.{Seeking, Moving}
 use Rattle.outlook.specs.Own.{Own, Line, line_work, line_device, lines_locked}
-use Rattle.outlook.specs.Places.{order_here}
-use Rattle.outlook.specs.Bounds.{place_outside, words_locked, limits_wrong, touches_lock, order_bounds, first}
+use Rattle.outlook.specs.Bounds.{limits_wrong, touches_lock, order_bounds, first}
 use Rattle.outlook.specs.Outlook.{next_place, judged, read_as, foreseen}
 use Rattle.outlook.specs.declared.bound.Bound.{Bound}
-use Rattle.outlook.specs.declared.bound.Bound.TheVariants.{Place, OrderLock}
 use Rattle.outlook.specs.declared.next.Next.{Next}
 use Rattle.program.specs.Effects.{move_by, work_by, ended, moved_by, carried, tried}
 use Rattle.program.specs.Kept.{update}
@@ -59,27 +55,14 @@ Unbroken n o = first (order_bounds n.order o) ≡ None
 
 module _ (o : Own) (n : Next) where
   at_judged : (x : Order) (b : Option Bound) → first (order_bounds x o) ≡ b → judged x (next_place o) b ≡ Ok n → Unbroken n o
-  at_judged x (Some b) eb e = never n b e
-  at_judged x None eb e = let same : x ≡ n.order = ap order_in e in subst (λ y. first (order_bounds y o) ≡ None) same eb
-    where
-      order_in : Result Next Bound → Order
-      order_in (Ok m) = m.order
-      order_in (Err b) = x
+  at_judged x b eb e = grind arith
 
   at_read : (r : Result Order Undecoded) → read_as r o ≡ Ok n → Unbroken n o
   at_read (Err u) e = never n _ e
   at_read (Ok x) e = at_judged x (first (order_bounds x o)) refl e
 
-  at_lock : (b : Bool) → cond b (Err OrderLock) (read_as (order_here o) o) ≡ Ok n → Unbroken n o
-  at_lock true e = never n OrderLock e
-  at_lock false e = at_read (order_here o) e
-
-  at_place : (b : Bool) → cond b (Err Place) (cond (words_locked o) (Err OrderLock) (read_as (order_here o) o)) ≡ Ok n → Unbroken n o
-  at_place true e = never n Place e
-  at_place false e = at_lock (words_locked o) e
-
   unbroken : foreseen o ≡ Ok n → Unbroken n o
-  unbroken e = at_place (place_outside o) e
+  unbroken e = grind (arith, at_read)
 
 abbrev AllKept : List (Bound × Bool) → Type 0
 AllKept [] = Unit {0}
@@ -166,28 +149,11 @@ changes_try o = at (foreseen o) refl
 
 -- being ready or stopped is left alone
 moved_ready : (k : MovingKind) (q : Q) (place : ℕ) (o : Own) → (moved_by k q place o).0.ready ≡ o.ready
-moved_ready k q place o = at (effect (move_by k q) o.area (line_device (o.lines q.c))).refusal
-  where
-    at : (why : Option String) → (ended k q place o (effect (move_by k q) o.area (line_device (o.lines q.c))) why).0.ready ≡ o.ready
-    at None = refl
-    at (Some why) = refl
+moved_ready k q place o = grind arith
 
 carried_ready : (x : Order) (place : ℕ) (o : Own) → (carried (record { order = x; place = place }) o).0.ready ≡ o.ready
-carried_ready (Register x) place o = refl
-carried_ready (Store x q e) place o = refl
-carried_ready (Indexed x k q) place o = refl
-carried_ready (Transfer transfer.Read q) place o = moved_ready (kind.Read false) (q_of q o.regs) place o
-carried_ready (Transfer transfer.ReadToEnd q) place o = moved_ready (kind.Read true) (q_of q o.regs) place o
-carried_ready (Transfer transfer.Write q) place o = moved_ready (kind.Write false) (q_of q o.regs) place o
-carried_ready (Transfer transfer.WriteToEnd q) place o = moved_ready (kind.Write true) (q_of q o.regs) place o
-carried_ready (Transfer transfer.Seek q) place o = moved_ready kind.Seek (q_of q o.regs) place o
-carried_ready (Transfer transfer.Busy q) place o = refl
-carried_ready Out place o = refl
+carried_ready x place o = grind (arith, moved_ready)
 
 pub ready_try : (o : Own) → (try o).0.ready ≡ o.ready
 unfolding try
-ready_try o = at (foreseen o)
-  where
-    at : (r : Result Next Bound) → (tried r o).0.ready ≡ o.ready
-    at (Err b) = refl
-    at (Ok n) = carried_ready n.order n.place o
+ready_try o = grind (arith, carried_ready)

@@ -1,19 +1,19 @@
 -- A turn is entering, its steps, and handing back.
-use Rattle.std.proofs.Common.{◌≡◌, ℕ, zero, suc, ◌+◌, ◌^◌, ◌<◌, ◌≤◌, Bool, true, false, cond, not, eqb, ltb, length, is_some, Some, None, Option, sym, refl, ap, ◌∙◌, ap₂, inl, inr, arith}
+use Rattle.std.proofs.Common.{◌≡◌, ℕ, zero, suc, ◌+◌, ◌^◌, ◌<◌, ◌≤◌, true, false, eqb, ltb, length, Some, None, Option, sym, refl, ap, ◌∙◌, ap₂, inl, inr, arith}
 use mathlib.Core.Path.{fun_ext}
-use Rattle.std.proofs.lemmas.Bool.{cases_eq, cond-true, cond-false, le-ltb, ltb-false, eq-eqb, not-false}
+use Rattle.std.proofs.lemmas.Bool.Decides.{nat_tests}
+use Rattle.std.proofs.lemmas.Bool.{cases_eq, cond-true, cond-false, le-ltb, eq-eqb}
 use Rattle.outlook.specs.Own.{Own}
 use Rattle.program.specs.Kept.{update}
 use Rattle.program.specs.Told.{Told}
-use Rattle.program.specs.Told.Told.{done, broke, refused, out}
 use Rattle.program.proofs.Changes.{nothing_changed}
 use Rattle.buffers.specs.Buffers.{holds}
 use Rattle.host.specs.World.{World, Program, own_in, with_own, put}
 use Rattle.host.specs.Causes.{Cause, Ending}
-use Rattle.host.specs.Turns.{Turn, Stop, try, cause_by, stops, done_by, left_by, stopped, stop_at, one_more, orders}
+use Rattle.host.specs.Turns.{Turn, Stop, try, cause_by, stops, done_by, left_by, stop_at, one_more, orders}
 use Rattle.host.specs.Numbers.{Answer}
 use Rattle.host.specs.Numbers.Answer.{ended}
-use Rattle.host.specs.Calls.{step_checks, first_failing, refusal, is_stopped, cut_off, turned, turn_report, perform, by_check}
+use Rattle.host.specs.Calls.{step_checks, first_failing, refusal, turned, turn_report, perform, by_check}
 use Rattle.host.specs.Calls.Call.{turn}
 use Rattle.host.specs.Steps.{Token, Stepped, entered, stepped, step_on, step_checked, step_in, tried_in, ending_at, counted, handed_back, ending_or_count, place_in, steps}
 use Rattle.host.proofs.Changes.{ready_try}
@@ -24,11 +24,7 @@ use Rattle.host.proofs.Parts.{length_part, length_put_part, put_same}
 -- the checks of a step that pass
 
 pub step_passes : (p : ℕ) (w : World) (g : Program) → p ≤ 3 → w.slots p ≡ Some g → g.ready ≡ true → g.base + g.size ≤ length w.store → first_failing (step_checks p w) ≡ None
-step_passes p w g number there ready inside =
-    cond-false (ltb 3 p) (Some 1) _ (le-ltb 3 p number)
-    ∙ cond-false (not (is_some (w.slots p))) (Some 10) _ (ap (λ o. not (is_some o)) there)
-    ∙ cond-false (is_stopped (w.slots p)) (Some 15) _ (ap is_stopped there ∙ ap not ready)
-    ∙ cond-false (cut_off (length w.store) (w.slots p)) (Some 16) _ (ap (cut_off (length w.store)) there ∙ le-ltb _ _ inside)
+step_passes p w g number there ready inside = grind (arith, nat_tests)
 
 -- what a step that passes its checks may rest on
 pub record Granted (p : ℕ) (w : World) : Type 0 where
@@ -38,20 +34,18 @@ pub record Granted (p : ℕ) (w : World) : Type 0 where
   pub ready : program.ready ≡ true
   pub inside : program.base + program.size ≤ length w.store
 
-pass : (b : Bool) (n : ℕ) (rest : Option ℕ) → cond b (Some n) rest ≡ None → (b ≡ false) × (rest ≡ None)
-pass b n rest e = grind arith
-
 pub step_granted : (p : ℕ) (w : World) → first_failing (step_checks p w) ≡ None → Granted p w
-step_granted p w e =
-    let a = pass (ltb 3 p) 1 _ e in
-    let b = pass (not (is_some (w.slots p))) 10 _ a.1 in
-    let c = pass (is_stopped (w.slots p)) 15 _ b.1 in
-    let d = pass (cut_off (length w.store) (w.slots p)) 16 _ c.1 in
-    at (w.slots p) refl (ltb-false 3 p a.0) b.0 c.0 d.0
+step_granted p w e = at (w.slots p) refl
   where
-    at : (o : Option Program) → w.slots p ≡ o → p ≤ 3 → not (is_some o) ≡ false → is_stopped o ≡ false → cut_off (length w.store) o ≡ false → Granted p w
-    at None there number x y z = cc
-    at (Some g) there number x y z = record { program = g; number = number; there = there; ready = not-false g.ready y; inside = ltb-false _ _ z }
+    at : (o : Option Program) → w.slots p ≡ o → Granted p w
+    at None there = absurd (grind (arith, nat_tests))
+    at (Some g) there = record {
+      program = g;
+      number = grind (arith, nat_tests);
+      there = there;
+      ready = grind (arith, nat_tests);
+      inside = grind (arith, nat_tests);
+    }
 
 -- what a program owns, put back
 pub put_own : (p : ℕ) (g : Program) (w : World) → w.slots p ≡ Some g → g.base + g.size ≤ length w.store → put p g (own_in p g w) w ≡ w
@@ -73,11 +67,7 @@ no_cause : (place : ℕ) (c : Option Cause) → stop_at place c ≡ None → c �
 no_cause place c e = grind arith
 
 ready_more : (t : Turn) (s : Option Stop) → t.stop ≡ s → (t.stop ≡ None → t.own.ready ≡ true) → (one_more s t).stop ≡ None → (one_more s t).own.ready ≡ true
-ready_more t (Some s) es h e = h e
-ready_more t None es h e =
-    let x = (try t.own).1 in
-    let c = no_cause t.own.regs.place (cause_by x) e in
-    ap (λ b. (cond b (stopped (try t.own).0) (try t.own).0).ready) (ready_told x c) ∙ ready_try t.own ∙ h es
+ready_more t s es h e = grind (arith, ready_told, no_cause, ready_try)
 
 pub ready_orders : (n : ℕ) (o : Own) → o.ready ≡ true → (orders n o).stop ≡ None → (orders n o).own.ready ≡ true
 unfolding orders

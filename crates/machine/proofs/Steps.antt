@@ -1,7 +1,8 @@
 -- From what the code does to the steps of a turn.
-use Rattle.std.proofs.Common.{◌≡◌, ℕ, ◌+◌, ◌^◌, ◌<◌, ◌≤◌, Bool, true, false, cond, not, ltb, length, is_some, Some, None, Err, Option, Result, sym, refl, ap, ◌∙◌, ap₂}
+use Rattle.std.proofs.Common.{◌≡◌, ℕ, ◌+◌, ◌^◌, ◌<◌, ◌≤◌, Bool, true, false, cond, ltb, length, is_some, Some, None, Err, Option, Result, sym, refl, ap, ◌∙◌, ap₂, arith}
 use Rattle.std.proofs.Math.Numerals.{suc-eq-add-one}
-use Rattle.std.proofs.lemmas.Bool.{cond-true, cond-false, le-ltb, ltb-false}
+use Rattle.std.proofs.lemmas.Bool.Decides.{nat_tests}
+use Rattle.std.proofs.lemmas.Bool.{cond-false, le-ltb, ltb-false}
 use Rattle.device.specs.Meaning.{Meaning}
 use Rattle.outlook.specs.Own.{Own}
 use Rattle.outlook.specs.Outlook.{foreseen}
@@ -16,7 +17,7 @@ use Rattle.host.specs.Causes.{Ending, Report, endings_of}
 use Rattle.host.specs.Numbers.{Answer}
 use Rattle.host.specs.Numbers.Answer.{ended}
 use Rattle.host.specs.Calls.Call.{turn}
-use Rattle.host.specs.Calls.{step_checks, first_failing, is_stopped, cut_off, refusal, perform}
+use Rattle.host.specs.Calls.{step_checks, first_failing, refusal, perform}
 use Rattle.host.specs.Turns.{try, stops, stopped, left_by}
 use Rattle.host.specs.Steps.{Token, StepAnswer, Stepped, by_ending, step_on, step_checked, step_in, stepped, tried_by, told_of, place_in, place_of, steps, entered, handed_back}
 use Rattle.host.specs.Steps.StepAnswer.{gave, turned_down}
@@ -24,10 +25,9 @@ use Rattle.host.specs.declared.cause.Ending.{Ending as ToldEnding}
 use Rattle.host.proofs.Lens.{update_same, update_twice}
 use Rattle.host.proofs.Stepping.{Granted, step_passes, put_own, steps_stay, turn_is_steps}
 use Rattle.slots.specs.Ahead.{ahead_of}
-use Rattle.slots.specs.Held.{halted, state_of, ready_or_stopped}
+use Rattle.slots.specs.Held.{halted, state_of}
 use Rattle.slots.specs.declared.slots.State.{State}
 use Rattle.slots.specs.declared.slots.State.TheVariants.{Empty, Ready, Stopped}
-use Rattle.slots.proofs.Orders.{given, withheld}
 use Rattle.machine.specs.Settled.{Settled, stopped_in}
 
 -- a step that gives the turn's cause again, and one that is turned down
@@ -46,40 +46,13 @@ abbrev pub answers_state : ℕ → World → Option State
 answers_state p w = cond (ltb 3 p) None (Some (state_of (w.slots p)))
 
 pub fails_over : (p : ℕ) (w : World) → None ≡ answers_state p w → first_failing (step_checks p w) ≡ Some 1
-fails_over p w e = cond-true (ltb 3 p) (Some 1) _ (withheld (ltb 3 p) (state_of (w.slots p)) e)
-
--- the first check of a step that fails, but for that of the number, by what is in the slot
-abbrev checks_of : ℕ → Option Program → Option ℕ
-checks_of words o = cond (not (is_some o)) (Some 10) (cond (is_stopped o) (Some 15) (cond (cut_off words o) (Some 16) None))
-
-checked_as : (p : ℕ) (w : World) (o : Option Program) → ltb 3 p ≡ false → w.slots p ≡ o → first_failing (step_checks p w) ≡ checks_of (length w.store) o
-checked_as p w o b there = cond-false (ltb 3 p) (Some 1) _ b ∙ ap (checks_of (length w.store)) there
+fails_over p w e = grind (arith, nat_tests)
 
 pub fails_empty : (p : ℕ) (w : World) → Some Empty ≡ answers_state p w → first_failing (step_checks p w) ≡ Some 10
-fails_empty p w e =
-    let a = given (ltb 3 p) Empty (state_of (w.slots p)) e in
-    checked_as p w _ a.0 refl ∙ at (w.slots p) a.1
-  where
-    never : (b : Bool) → Empty ≡ ready_or_stopped b → ⊥
-    never true e = cc
-    never false e = cc
-
-    at : (o : Option Program) → Empty ≡ state_of o → checks_of (length w.store) o ≡ Some 10
-    at None e = refl
-    at (Some g) e = absurd (never g.ready e)
+fails_empty p w e = grind (arith, nat_tests)
 
 pub fails_stopped : (p : ℕ) (w : World) → Some Stopped ≡ answers_state p w → first_failing (step_checks p w) ≡ Some 15
-fails_stopped p w e =
-    let a = given (ltb 3 p) Stopped (state_of (w.slots p)) e in
-    checked_as p w _ a.0 refl ∙ at (w.slots p) a.1
-  where
-    not_ready : (b : Bool) → Stopped ≡ ready_or_stopped b → not b ≡ true
-    not_ready true e = cc
-    not_ready false e = refl
-
-    at : (o : Option Program) → Stopped ≡ state_of o → checks_of (length w.store) o ≡ Some 15
-    at None e = cc
-    at (Some g) e = cond-true (not g.ready) (Some 15) _ (not_ready g.ready e)
+fails_stopped p w e = grind (arith, nat_tests)
 
 -- a program that is ready
 pub record IsReady (p : ℕ) (w : World) : Type 0 where
@@ -89,53 +62,45 @@ pub record IsReady (p : ℕ) (w : World) : Type 0 where
   pub ready : program.ready ≡ true
 
 pub ready_there : (p : ℕ) (w : World) → Some Ready ≡ answers_state p w → IsReady p w
-ready_there p w e =
-    let a = given (ltb 3 p) Ready (state_of (w.slots p)) e in
-    at (w.slots p) refl a.0 a.1
+ready_there p w e = at (w.slots p) refl
   where
-    is_ready : (b : Bool) → Ready ≡ ready_or_stopped b → b ≡ true
-    is_ready true e = refl
-    is_ready false e = cc
-
-    at : (o : Option Program) → w.slots p ≡ o → ltb 3 p ≡ false → Ready ≡ state_of o → IsReady p w
-    at None there b e = cc
-    at (Some g) there b e = record { program = g; number = b; there = there; ready = is_ready g.ready e }
+    at : (o : Option Program) → w.slots p ≡ o → IsReady p w
+    at None there = absurd (grind (arith, nat_tests))
+    at (Some g) there = record { program = g; number = grind (arith, nat_tests); there = there; ready = grind (arith, nat_tests) }
 
 -- what the code found ahead of the program in a slot
 abbrev pub FoundAhead : ℕ → World → Option (Result Next Bound) → Type 0
 FoundAhead p w a = (ready : Bool) (bank : ℕ → Option Meaning) → a ≡ ahead_of p (w.slots p) w.store w.buffers ready bank
 
-ahead_here : (p : ℕ) (w : World) (a : Option (Result Next Bound)) (h : IsReady p w) → FoundAhead p w a → a ≡ cond (cut_off (length w.store) (Some h.program)) None (Some (foreseen (own_in p h.program w)))
-ahead_here p w a h found = found h.program.ready w.bank ∙ ap (λ o. ahead_of p o w.store w.buffers h.program.ready w.bank) h.there
-
-pub fails_short : (p : ℕ) (w : World) → IsReady p w → FoundAhead p w None → first_failing (step_checks p w) ≡ Some 16
-fails_short p w h found =
-    checked_as p w (Some h.program) h.number h.there
-    ∙ cond-false (not h.program.ready) (Some 15) _ (ap not h.ready)
-    ∙ cond-true (cut_off (length w.store) (Some h.program)) (Some 16) None (withheld _ _ (ahead_here p w None h found))
+pub fails_short : (p : ℕ) (w : World) (a : Option (Result Next Bound)) → IsReady p w → FoundAhead p w a → a ≡ None → first_failing (step_checks p w) ≡ Some 16
+fails_short p w a h found none = let f = found h.program.ready w.bank in grind (arith, nat_tests)
 
 -- a step that tries an order
 
-pub granted_ahead : (p : ℕ) (w : World) (r : Result Next Bound) → IsReady p w → FoundAhead p w (Some r) → Granted p w
-granted_ahead p w r h found = record {
+inside_found : (p : ℕ) (w : World) (a : Option (Result Next Bound)) (r : Result Next Bound) (h : IsReady p w) → FoundAhead p w a → a ≡ Some r → h.program.base + h.program.size ≤ length w.store
+inside_found p w a r h found some = let f = found h.program.ready w.bank in grind (arith, nat_tests)
+
+foreseen_found : (p : ℕ) (w : World) (a : Option (Result Next Bound)) (r : Result Next Bound) (h : IsReady p w) → FoundAhead p w a → a ≡ Some r → foreseen (own_in p h.program w) ≡ r
+foreseen_found p w a r h found some = let f = found h.program.ready w.bank in grind (arith, nat_tests)
+
+pub granted_ahead : (p : ℕ) (w : World) (a : Option (Result Next Bound)) (r : Result Next Bound) → IsReady p w → FoundAhead p w a → a ≡ Some r → Granted p w
+granted_ahead p w a r h found some = record {
   program = h.program;
   number = ltb-false 3 p h.number;
   there = h.there;
   ready = h.ready;
-  inside = ltb-false _ _ (given _ _ _ (ahead_here p w (Some r) h found)).0;
+  inside = inside_found p w a r h found some;
 }
 
-pub tried_breaks : (p : ℕ) (w : World) (bound : Bound) → IsReady p w → FoundAhead p w (Some (Err bound)) → ◌≡◌ {A = World × Told} (w, broke bound) (tried_by p w (w.slots p))
+pub tried_breaks : (p : ℕ) (w : World) (a : Option (Result Next Bound)) (bound : Bound) → IsReady p w → FoundAhead p w a → a ≡ Some (Err bound) → ◌≡◌ {A = World × Told} (w, broke bound) (tried_by p w (w.slots p))
 unfolding try
-tried_breaks p w bound h found =
-    let b = given _ _ _ (ahead_here p w (Some (Err bound)) h found) in
-    let inside : h.program.base + h.program.size ≤ length w.store = ltb-false _ _ b.0 in
+tried_breaks p w a bound h found some =
     let q = own_in p h.program w in
-    let e : try q ≡ (q, broke bound) = ap (λ r. tried r q) (sym b.1) in
+    let e : try q ≡ (q, broke bound) = ap (λ r. tried r q) (foreseen_found p w a (Err bound) h found some) in
     sym (
     ap (tried_by p w) h.there
     ∙ ap (λ (r : Own × Told). (put p h.program r.0 w, r.1)) e
-    ∙ ap (λ (v : World). (v, broke bound)) (put_own p h.program w h.there inside)
+    ∙ ap (λ (v : World). (v, broke bound)) (put_own p h.program w h.there (inside_found p w a (Err bound) h found some))
     )
 
 -- the program stopped where it has to be
@@ -189,8 +154,7 @@ one_more k t u v w y z a e f =
     ∙ ap (λ j. steps j t w) (suc-eq-add-one k)
 
 is_some_ending : (o : Option ToldEnding) → is_some o ≡ is_some (endings_of o)
-is_some_ending None = refl
-is_some_ending (Some e) = refl
+is_some_ending o = grind arith
 
 -- a turn that has its cause
 pub has_ended : (k n : ℕ) (t u : Token) (w y : World) (o : Option ToldEnding) → k ≤ n → ◌≡◌ {A = World × Token} (y, u) (steps k t w) → u.ending ≡ endings_of o → is_some o ≡ true → ◌≡◌ {A = World × Token} (y, u) (steps n t w)

@@ -1,9 +1,9 @@
 -- The next order of the program in a slot.
-use Rattle.std.proofs.Common.{◌≡◌, ℕ, ◌+◌, ◌-◌, ◌<◌, ◌≤◌, cond, List, length, get_or, take, drop, slice_range, set, Some, None, Ok, Option, Result, Bool, true, false, refl, ap, ap₂, ◌∙◌, sym, inl, inr, arith}
+use Rattle.std.proofs.Common.{◌≡◌, ℕ, ◌+◌, ◌-◌, ◌<◌, ◌≤◌, List, length, get_or, slice_range, set, Some, None, Ok, Option, Result, Bool, true, refl, ap, ◌∙◌, sym, inl, inr, arith}
 use mathlib.Core.Path.{fun_ext}
 use borrow.Rule.Slice.PartMut.{put_mid}
 use Rattle.std.specs.Option.{option_map}
-use Rattle.std.proofs.lemmas.Bool.{cond_above, ltb-false, cases_lt}
+use Rattle.std.proofs.lemmas.Bool.{cases_lt}
 use Rattle.std.proofs.lemmas.Bool.Decides.{nat_tests}
 use Rattle.std.proofs.lemmas.Grind.{common_steps}
 use Rattle.std.proofs.lemmas.List.{get_or_default, get_or_past}
@@ -39,22 +39,12 @@ pub ahead_is :
 unfolding part
 ahead_is p g store area buffers ready bank r from to ef et inside ea was =
     let n : to - from ≡ g.size = omega arith in
-    cond_above (length store) (g.base + g.size) None _ (Some r) (omega arith)
-    (ap Some (was ∙ ap (λ xs. foreseen (owning xs g.regs ready (lines_of p buffers bank))) (ea ∙ ap₂ (λ a k. take k (drop a store)) ef n)))
+    grind (arith, nat_tests)
 
 -- what is ahead of a program: its area is in the store, and the outlook gives it
 pub record Known (p : ℕ) (g : Program) (store : List ℕ) (buffers : ℕ → Buffer) (r : Result Next Bound) : Type 0 where
   pub inside : g.base + g.size ≤ length store
   pub ahead : (ready : Bool) (bank : ℕ → Option Meaning) → r ≡ foreseen (owning (part g.base g.size store) g.regs ready (lines_of p buffers bank))
-
--- what a test withholds
-pub given : {X : Type 0} (b : Bool) (x y : X) → ◌≡◌ {A = Option X} (Some x) (cond b None (Some y)) → (b ≡ false) × (x ≡ y)
-given true x y e = cc
-given false x y e = (refl, cc)
-
-pub withheld : {X : Type 0} (b : Bool) (y : X) → ◌≡◌ {A = Option X} None (cond b None (Some y)) → b ≡ true
-withheld true y e = refl
-withheld false y e = cc
 
 -- what the code found ahead
 abbrev FoundAhead : ℕ → Option Program → List ℕ → (ℕ → Buffer) → Result Next Bound → Type 0
@@ -62,8 +52,8 @@ FoundAhead p o store buffers r = (ready : Bool) (bank : ℕ → Option Meaning) 
 
 pub known : (p : ℕ) (g : Program) (store : List ℕ) (buffers : ℕ → Buffer) (r : Result Next Bound) → FoundAhead p (Some g) store buffers r → Known p g store buffers r
 known p g store buffers r e = record {
-  inside = ltb-false _ _ (given _ _ _ (e true (λ k. None))).0;
-  ahead = λ ready bank. (given _ _ _ (e ready bank)).1;
+  inside = (let f = e true (λ k. None) in grind (arith, nat_tests));
+  ahead = λ ready bank. (let f = e ready bank in grind (arith, nat_tests));
 }
 
 -- nothing is ahead where no program is

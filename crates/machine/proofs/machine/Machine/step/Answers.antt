@@ -1,5 +1,4 @@
-use Rattle.std.proofs.Common.{◌≡◌, ℕ, Bool, Option, Some, None, Ok, Err, ap, ◌∙◌, sym}
-use Rattle.device.specs.Meaning.{Meaning}
+use Rattle.std.proofs.Common.{◌≡◌, Some, None, Ok, Err, ap, ◌∙◌, sym}
 use Rattle.slots.specs.Held.{world_of}
 use Rattle.slots.specs.declared.slots.State.TheVariants.{Empty, Ready, Stopped}
 use Rattle.program.specs.Told.{told}
@@ -40,7 +39,7 @@ returns-in-Some-Ready-None-None g c =
     let w = shown g.B.Bank.devices c.args.store.now c.args.self.now in
     let h = ready_there c.args.turn.now.slot w (sym s ∙ c.state.ensures) in
     refused_step (token_of c.args.turn.now) w 16 (ap endings_of c.in-Some-Ready-None-None.is-1)
-    (fails_short c.args.turn.now.slot w h (λ ready bank. sym a ∙ c.ahead.ensures ready bank))
+    (fails_short c.args.turn.now.slot w c.ahead.result h c.ahead.ensures a)
 
 pub returns-in-Some-Ready-None-Some-Err : goal.returns-in-Some-Ready-None-Some-Err
 returns-in-Some-Ready-None-Some-Err g c =
@@ -50,9 +49,8 @@ returns-in-Some-Ready-None-Some-Err g c =
     let b = c.in-Some-Ready-None-Some-Err.bound in
     let h = ready_there t.slot w (sym s ∙ c.state.ensures) in
     let a : c.ahead.result ≡ Some (Err b) = cc in
-    let found = λ (ready : Bool) (bank : ℕ → Option Meaning). sym a ∙ c.ahead.ensures ready bank in
     step_settled (token_of t) (token_of c.settle.new.turn) w w (shown g.B.Bank.devices c.args.store.now c.settle.new.self) (broke b) c.place-place.result
-    (granted_ahead t.slot w (Err b) h found) (ap endings_of c.in-Some-Ready-None-Some-Err.is-1) (tried_breaks t.slot w b h found) c.place-place.ensures (c.settle.ensures c.args.store.now)
+    (granted_ahead t.slot w c.ahead.result (Err b) h c.ahead.ensures a) (ap endings_of c.in-Some-Ready-None-Some-Err.is-1) (tried_breaks t.slot w c.ahead.result b h c.ahead.ensures a) c.place-place.ensures (c.settle.ensures c.args.store.now)
 
 pub returns-in-Some-Ready-None-Some-Ok : goal.returns-in-Some-Ready-None-Some-Ok
 returns-in-Some-Ready-None-Some-Ok g c =
@@ -65,4 +63,4 @@ returns-in-Some-Ready-None-Some-Ok g c =
     let settled = c.settle-in-Some-Ready-None-Some-Ok in
     step_settled (token_of t) (token_of settled.new.turn) w carried
     (shown g.B.Bank.devices c.carry-outcome.new.store settled.new.self) (told c.carry-outcome.result) c.place-place.result
-    (granted_ahead t.slot w (Ok c.in-Some-Ready-None-Some-Ok.next) h (λ ready bank. sym a ∙ c.ahead.ensures ready bank)) (ap endings_of c.in-Some-Ready-None-Some-Ok.is-1) c.carry-outcome.ensures c.place-place.ensures (settled.ensures c.carry-outcome.new.store)
+    (granted_ahead t.slot w c.ahead.result (Ok c.in-Some-Ready-None-Some-Ok.next) h c.ahead.ensures a) (ap endings_of c.in-Some-Ready-None-Some-Ok.is-1) c.carry-outcome.ensures c.place-place.ensures (settled.ensures c.carry-outcome.new.store)

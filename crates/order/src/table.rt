@@ -30,5 +30,5 @@ fn row_in(table: &[Row; 256], command: u8) -> Row
     requires { table_agrees table.now ≡ true }
     ensures { result ≡ row_of command }
 {
-    table[command as usize]
+    table[usize::from(command)]
 }

@@ -5,7 +5,6 @@ use Rattle.order.specs.declared.code.Undecoded.{Undecoded}
 use Rattle.outlook.specs.Own.{Own}
 use Rattle.outlook.specs.Places.{place_after, order_row, order_here}
 use Rattle.outlook.specs.Words.{unreadable}
-use Rattle.outlook.specs.Words.{unreadable}
 use Rattle.outlook.specs.Bounds.{place_outside, words_locked, order_bounds, first}
 use Rattle.outlook.specs.declared.bound.Bound.{Bound}
 use Rattle.outlook.specs.declared.bound.Bound.TheVariants.{Place, OrderLock}

@@ -24,4 +24,4 @@ unfolding none
 returns c =
     let p = and_parts (eqb (length c.args.table.now) 256) (agree c.args.table.now 0) c.requires in
     let l : length c.args.table.now ≡ 256 = eqb-true (length c.args.table.now) 256 p.0 in
-    agreed c.args.table.now 0 c.args.command p.1 (omega arith) ∙ ap row_of (zero-add c.args.command)
+    rw c.from.ensures (agreed c.args.table.now 0 c.args.command p.1 (omega arith) ∙ ap row_of (zero-add c.args.command))

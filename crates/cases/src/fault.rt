@@ -17,7 +17,7 @@ pub enum Fault {
     Range(#[from] TryFromIntError),
     #[error("which cannot be read")]
     Input(#[from] InputRefusal),
-    #[error("which cannot be read")]
+    #[error("which a device refuses: {0}")]
     Device(#[from] Refusal),
     #[error("which cannot be read")]
     Order(#[from] Undecoded),

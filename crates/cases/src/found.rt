@@ -14,22 +14,33 @@ pub(crate) fn found(
     keyword: &str,
     said: &[i128],
 ) -> Result<Vec<i128>, Fault> {
-    match keyword {
-        "nest" => Ok(nest(heap, &machine.regs)?),
-        "links" => Ok(links(heap, &machine.regs)?),
-        "changed" => Ok(changed(heap, machine)?),
-        "punched" => Ok(punched(heap, machine)?),
-        "place" | "count" | "v" | "t" => Ok(Vec::from_slice(heap, &[one(machine, keyword)])?),
-        _ => found_at(heap, machine, keyword, said),
-    }
-}
-
-fn one(machine: &Machine, keyword: &str) -> i128 {
-    match keyword {
+    let one = match keyword {
         "place" => i128::from(machine.regs.place()),
         "count" => i128::from(machine.count),
         "v" => i128::from(machine.regs.overflow()),
-        _ => i128::from(machine.regs.test()),
+        "t" => i128::from(machine.regs.test()),
+        _ => return found_list(heap, machine, keyword, said),
+    };
+    Ok(Vec::from_slice(heap, &[one])?)
+}
+
+fn found_list(
+    heap: Global,
+    machine: &mut Machine,
+    keyword: &str,
+    said: &[i128],
+) -> Result<Vec<i128>, Fault> {
+    match (keyword, said) {
+        ("nest", _) => Ok(nest(heap, &machine.regs)?),
+        ("links", _) => Ok(links(heap, &machine.regs)?),
+        ("changed", _) => Ok(changed(heap, machine)?),
+        ("punched", _) => Ok(punched(heap, machine)?),
+        ("word", [at, after @ ..]) => entries(heap, machine.area.as_slice(), *at, after.len()),
+        ("q", [n, ..]) => q(heap, &machine.regs, *n),
+        ("idle" | "seeking" | "moving", [n, ..]) => work(heap, machine, keyword, *n),
+        ("head", [n, ..]) => head(heap, machine, *n),
+        ("cells", [n, from, symbols @ ..]) => cells(heap, machine, *n, *from, symbols.len()),
+        _ => Err(Fault::Unreadable),
     }
 }
 
@@ -68,23 +79,6 @@ fn changed(heap: Global, machine: &Machine) -> Result<Vec<i128>, AllocError> {
 fn punched(heap: Global, machine: &Machine) -> Result<Vec<i128>, AllocError> {
     let cells = machine.bank.below().device().cells();
     cells.iter().map(|symbol| i128::from(*symbol)).collect(heap)
-}
-
-// Lines that begin with a number.
-fn found_at(
-    heap: Global,
-    machine: &mut Machine,
-    keyword: &str,
-    said: &[i128],
-) -> Result<Vec<i128>, Fault> {
-    match (keyword, said) {
-        ("word", [at, after @ ..]) => entries(heap, machine.area.as_slice(), *at, after.len()),
-        ("q", [n, ..]) => q(heap, &machine.regs, *n),
-        ("idle" | "seeking" | "moving", [n, ..]) => work(heap, machine, keyword, *n),
-        ("head", [n, ..]) => head(heap, machine, *n),
-        ("cells", [n, from, symbols @ ..]) => cells(heap, machine, *n, *from, symbols.len()),
-        _ => Err(Fault::Unreadable),
-    }
 }
 
 // An address, and so many entries from it on.

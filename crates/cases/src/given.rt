@@ -26,12 +26,9 @@ pub(crate) fn give_code(heap: Global, machine: &mut Machine, rest: &str) -> Resu
     };
     let place = place.parse::<u16>()?;
     let code = bytes(heap, code)?;
-    for (offset, byte) in (0..u16::MAX).zip(code.as_slice()) {
-        put_byte(
-            machine.area.as_mut_slice(),
-            place.wrapping_add(offset),
-            *byte,
-        )?;
+    for (i, byte) in code.iter().enumerate() {
+        let at = place.wrapping_add(u16::try_from(i)?);
+        put_byte(machine.area.as_mut_slice(), at, *byte)?;
     }
     Ok(())
 }

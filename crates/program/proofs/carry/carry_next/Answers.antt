@@ -1,4 +1,5 @@
-use Rattle.std.proofs.Common.{◌≡◌, ◌≤◌, true, None, sym, ap, ◌∙◌}
+use Rattle.std.proofs.Common.{◌≡◌, ◌≤◌, true, None, sym, ap, ◌∙◌, arith}
+use Rattle.std.proofs.lemmas.Bool.Decides.{nat_tests}
 use Rattle.word.specs.declared.q.Q.{Q}
 use Rattle.device.specs.Bank.{standing}
 use Rattle.buffers.specs.Buffers.{records, holds, is_busy}
@@ -44,25 +45,9 @@ do_move-requires g c = (there g (goal.at.do_move-requires g c).After-q_of-parts)
 pub returns-in-Some : goal.returns-in-Some
 returns-in-Some g c =
     let held = (there g (goal.at.returns-in-Some g c).After-q_of-parts).1 in
-    record {
-      own = λ ready.
-          let o = own_of c.args.slot c.args.regs.now c.args.area.now ready (records c.args.buffers.now.table) (standing (g.B.Bank.devices c.args.bank.now)) in
-          ap (λ x. done_order x c.args.next.place o) c.in-Transfer.is
-          ∙ ap (λ k. transferred k (q_of c.in-Transfer.q o.regs) c.args.next.place o) (sym c.in-Some.ensures)
-          ∙ ap (λ (v : Q). moved_by c.in-Some.kind v c.args.next.place o) (sym c.q_of-parts.ensures)
-          ∙ c.do_move.ensures.own c.args.slot ready held;
-      kept = c.do_move.ensures.kept c.args.slot held;
-    }
+    record { own = λ ready. grind (arith, c.do_move.ensures.own c.args.slot ready held); kept = c.do_move.ensures.kept c.args.slot held }
 
 pub returns-in-None-clause-own : goal.returns-in-None-clause-own
 returns-in-None-clause-own g c ready =
     let held = (there g (goal.at.returns-in-None-clause-own g c).After-q_of-parts).1 in
-    let buffers = records c.args.buffers.now.table in
-    let bank = standing (g.B.Bank.devices c.args.bank.now) in
-    let o = own_of c.args.slot c.args.regs.now c.args.area.now ready buffers bank in
-    let n = c.args.next.place in
-    let after : c.set_test.new.self ≡ with_test (is_busy (buffers c.q_of-parts.result.c).work) (with_place n o.regs) = cc in
-    ap (λ x. done_order x n o) c.in-Transfer.is
-    ∙ ap (λ k. transferred k (q_of c.in-Transfer.q o.regs) n o) (sym c.in-None.ensures)
-    ∙ ap (λ (v : Q). asked v n o) (sym c.q_of-parts.ensures)
-    ∙ asked_by c.args.slot c.q_of-parts.result n o.regs _ c.args.area.now ready buffers bank held after
+    grind (arith, nat_tests, held)

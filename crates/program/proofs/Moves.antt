@@ -33,9 +33,3 @@ module _ (slot : ℕ) (k : MovingKind) (q : Q) (place : ℕ) (regs : Regs) (area
   pub move_refused : (why : String) → Some why ≡ e.refusal → (ready : Bool) → moved_by k q place (owning area regs ready (lines_of slot buffers bank)) ≡ (owning area' regs ready (lines_of slot buffers bank'), refused q.c why moved)
   move_refused why er ready =
       let lines = lines_changed slot q.c buffers buffers bank bank' (buffers q.c).work e.device held (unchanged buffers q.c) ed in grind (arith, nat_tests, lines)
-
--- BUSY, asked of a buffer of the slot
-pub asked_by : (slot : ℕ) (q : Q) (place : ℕ) (regs regs' : Regs) (area : List ℕ) (ready : Bool) (buffers : ℕ → Buffer) (bank : ℕ → Option Meaning) →
-    holds slot (buffers q.c) ≡ true → regs' ≡ with_test (is_busy (buffers q.c).work) (with_place place regs) →
-    asked q place (owning area regs ready (lines_of slot buffers bank)) ≡ (owning area regs' ready (lines_of slot buffers bank), done 0)
-asked_by slot q place regs regs' area ready buffers bank held er = grind (arith, nat_tests)

@@ -4,13 +4,13 @@ use Prim.Native.String.{String}
 use Rattle.std.proofs.lemmas.Bool.Decides.{nat_tests}
 use Rattle.device.specs.Meaning.{Meaning}
 use Rattle.word.specs.declared.q.Q.{Q}
-use Rattle.registers.specs.Registers.{Regs, with_place, with_test}
+use Rattle.registers.specs.Registers.{Regs, with_place}
 use Rattle.transfer.specs.Moves.{Effect, effect}
 use Rattle.transfer.specs.declared.moves.Transfer.{Transfer as MovingKind}
 use Rattle.buffers.specs.declared.buffer.Buffer.{Buffer}
-use Rattle.buffers.specs.Buffers.{holds, with_work, is_busy}
+use Rattle.buffers.specs.Buffers.{holds, with_work}
 use Rattle.outlook.specs.Own.{lines_of, owning}
-use Rattle.program.specs.Effects.{move_by, work_by, moved_by, asked}
+use Rattle.program.specs.Effects.{move_by, work_by, moved_by}
 use Rattle.program.specs.Kept.{update}
 use Rattle.program.specs.Told.Told.{done, refused}
 use Rattle.program.proofs.Changes.{lines_changed, unchanged}

@@ -1,12 +1,7 @@
-use Rattle.std.proofs.Common.{◌≡◌, ◌≤◌, true, None, sym, ap, ◌∙◌, arith}
+use Rattle.std.proofs.Common.{◌≡◌, ◌≤◌, true, None, arith}
 use Rattle.std.proofs.lemmas.Bool.Decides.{nat_tests}
-use Rattle.word.specs.declared.q.Q.{Q}
-use Rattle.device.specs.Bank.{standing}
-use Rattle.buffers.specs.Buffers.{records, holds, is_busy}
+use Rattle.buffers.specs.Buffers.{records, holds}
 use Rattle.outlook.specs.Own.{own_of}
-use Rattle.registers.specs.Registers.{q_of, with_place, with_test}
-use Rattle.program.specs.Effects.{done_order, transferred, moved_by, asked}
-use Rattle.program.proofs.Moves.{asked_by}
 use Rattle.program.proofs.Granted.{may_register, may_store, may_index, may_out, may_transfer}
 use Rattle.program.proofs.carry.carry_next.Given as given
 use Rattle.program.proofs.carry.carry_next.Goals as goal

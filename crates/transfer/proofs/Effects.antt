@@ -1,5 +1,5 @@
 -- What moves leave as it was, and moves one after another.
-use Rattle.std.proofs.Common.{◌≡◌, ℕ, suc, ◌+◌, ◌<◌, List, [], ◌∷◌, ◌++◌, length, get_or, drop, set, None, Option, sym, refl, ap, ◌∙◌, ap₂, arith}
+use Rattle.std.proofs.Common.{◌≡◌, ℕ, suc, ◌+◌, ◌<◌, List, [], ◌∷◌, ◌++◌, length, get_or, drop, set, None, Option, refl, ◌∙◌, arith}
 use Rattle.std.proofs.lemmas.List.{length-set, drop_more}
 use Rattle.device.specs.Meaning.{Meaning}
 use Rattle.device.specs.Bank.{Devices}
@@ -42,10 +42,8 @@ pub in_turn_more : (n : ℕ) (xs : List Move) (i : ℕ) (x : Move) (b₀ b b' : 
     (in_turn (drop (i + 1) xs) area' (standing b' n) ≡ whole) × Beside n b₀ b'
 unfolding in_turn
 in_turn_more n xs i x b₀ b b' whole area area' h ea eb left others =
-    let then : standing b' n ≡ (effect (get_or xs i x) area (standing b n)).device = standing_set n b _ (nothing_after (get_or xs i x) area (standing b n)) eb in (
-      ap₂ (in_turn (drop (i + 1) xs)) ea then ∙ sym (ap (λ l. in_turn l area (standing b n)) (drop_more xs i x h)) ∙ left,
-      beside_set n b₀ b _ eb others,
-    )
+    let then : standing b' n ≡ (effect (get_or xs i x) area (standing b n)).device = standing_set n b _ (nothing_after (get_or xs i x) area (standing b n)) eb in
+    (grind (arith, then, drop_more xs i x h), beside_set n b₀ b _ eb others)
 
 pub in_turn_none : (area : List ℕ) (d : Option Meaning) → in_turn [] area d ≡ record { area = area; device = d }
 unfolding in_turn

@@ -1,12 +1,12 @@
 -- One more symbol of a word that is written, and one more word.
-use Rattle.std.proofs.Common.{◌≡◌, ℕ, zero, suc, ◌+◌, ◌*◌, ◌/◌, ◌%◌, ◌^◌, ◌≤◌, Bool, true, false, cond, List, [], ◌∷◌, ◌++◌, length, get_or, Some, None, Ok, Err, Option, Result, sym, refl, ap, ◌∙◌, arith}
+use Rattle.std.proofs.Common.{◌≡◌, ℕ, zero, suc, ◌+◌, ◌*◌, ◌/◌, ◌%◌, ◌^◌, ◌≤◌, Bool, true, false, cond, List, [], ◌∷◌, ◌++◌, length, get_or, Some, None, Ok, Err, Option, Result, sym, refl, ap, arith}
 use Prim.Native.String.{String}
 use Rattle.std.proofs.lemmas.List.{length-append}
 use Rattle.std.proofs.lemmas.Bool.Decides.{nat_tests}
 use Rattle.device.specs.Meaning.{Meaning, write_answer, write_after}
 use Rattle.device.specs.Bank.{answer_of, after_of}
 use Rattle.transfer.specs.declared.part.Stop.{Stop as Stopped}
-use Rattle.transfer.specs.Symbols.{Sent, send, send_on, one_more, ending, unpacked, spread, stop_of}
+use Rattle.transfer.specs.Symbols.{Sent, send, send_on, ending, unpacked, spread, stop_of}
 use Rattle.transfer.specs.Symbols.Stop.{all, message_end, refused}
 use Rattle.transfer.proofs.Words.{is_all, stops_early}
 
@@ -20,10 +20,10 @@ module _ (ends : Bool) (d after : Option Meaning) (s : ℕ) (ed : after ≡ afte
   first e = rw (ek, ed, ← e, ← es) refl
 
   pub symbol_more : Ok tt ≡ answer_of write_answer d → ending ends s ≡ false → send ends (unpacked k w) d ≡ record { moved = 1 + rest.moved; stop = rest.stop; device = rest.device }
-  symbol_more e on = first e ∙ ap (λ t. cond t (record { moved = 1; stop = message_end; device = after }) (one_more rest)) on ∙ ap (λ i. record { moved = i; stop = rest.stop; device = rest.device }) (let c : rest.moved + 1 ≡ 1 + rest.moved = omega arith in c)
+  symbol_more e on = grind (arith, nat_tests, first e)
 
   pub symbol_last : Ok tt ≡ answer_of write_answer d → ending ends s ≡ true → send ends (unpacked k w) d ≡ record { moved = 1; stop = message_end; device = after }
-  symbol_last e off = first e ∙ ap (λ t. cond t (record { moved = 1; stop = message_end; device = after }) (one_more rest)) off
+  symbol_last e off = grind (arith, nat_tests, first e)
 
   pub symbol_refused : (e : String) → Err e ≡ answer_of write_answer d → send ends (unpacked k w) d ≡ record { moved = 0; stop = refused e; device = after }
   symbol_refused e answer = first answer
@@ -43,7 +43,7 @@ module _ (ends : Bool) where
 
   send_append : (xs ys : List ℕ) (d : Option Meaning) → send ends (xs ++ ys) d ≡ joined (send ends xs d) (send ends ys (send ends xs d).device)
   unfolding send
-  send_append [] ys d = ap (λ i. record { moved = i; stop = (send ends ys d).stop; device = (send ends ys d).device }) (let e : (send ends ys d).moved ≡ 0 + (send ends ys d).moved = omega arith in e)
+  send_append [] ys d = grind (arith, nat_tests)
   send_append (x ∷ xs) ys d = join_on ys x (answer_of write_answer d) (after_of (λ m. write_after m x) d) _ _ (send_append xs ys (after_of (λ m. write_after m x) d))
 
   -- nothing comes of nothing
@@ -76,18 +76,15 @@ module _ (ends : Bool) (d after : Option Meaning) (area : List ℕ) (a m m' : �
   abbrev behind : Sent
   behind = send ends (spread m' (a + 1) area) after
 
-  split : after ≡ this.device → (t : Bool) → is_all this.stop ≡ t → send ends (spread m a area) d ≡ cond t (record { moved = this.moved + behind.moved; stop = behind.stop; device = behind.device }) this
+  split : after ≡ this.device → send ends (spread m a area) d ≡ joined this behind
   unfolding spread
-  split ed t e =
-      ap (λ i. send ends (spread i a area) d) left ∙ send_append ends (unpacked 8 (get_or area a 0)) (spread m' (a + 1) area) d
-      ∙ ap (λ y. joined this (send ends (spread m' (a + 1) area) y)) (sym ed)
-      ∙ ap (λ u. cond u (record { moved = this.moved + behind.moved; stop = behind.stop; device = behind.device }) this) e
+  split ed = grind (arith, left, send_append ends (unpacked 8 (get_or area a 0)) (spread m' (a + 1) area) d)
 
   pub word_more : after ≡ this.device → all ≡ this.stop → send ends (spread m a area) d ≡ record { moved = this.moved + behind.moved; stop = behind.stop; device = behind.device }
-  word_more ed full = split ed true (ap is_all (sym full))
+  word_more ed full = grind (arith, nat_tests, split ed, ap is_all (sym full))
 
   pub word_last : after ≡ this.device → (stop : Stopped) → stop_of (Some stop) ≡ this.stop → send ends (spread m a area) d ≡ this
-  word_last ed stop stopped = split ed false (ap is_all (sym stopped) ∙ stops_early stop)
+  word_last ed stop stopped = grind (arith, nat_tests, split ed, ap is_all (sym stopped), stops_early stop)
 
 pub no_word : (ends : Bool) (d : Option Meaning) (area : List ℕ) (a m : ℕ) → m ≡ 0 → send ends (spread m a area) d ≡ record { moved = 0; stop = all; device = d }
 unfolding send spread

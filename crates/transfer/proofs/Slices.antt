@@ -1,7 +1,8 @@
 -- The words of a move as a slice of the area.
-use Rattle.std.proofs.Common.{◌≡◌, ℕ, zero, suc, ◌+◌, ◌-◌, ◌*◌, ◌<◌, ◌≤◌, Bool, List, [], ◌∷◌, ◌++◌, length, get_or, take, drop, set, Option, sym, refl, ap, ◌∙◌, ap₂, if◌then◌else◌, ◌&&◌, nat_lt, nat_le, ◌⊎◌, inl, inr, arith}
+use Rattle.std.proofs.Common.{◌≡◌, ℕ, zero, suc, ◌+◌, ◌-◌, ◌*◌, ◌<◌, ◌≤◌, Bool, List, [], ◌∷◌, ◌++◌, length, get_or, take, drop, set, Option, sym, refl, ap, ◌∙◌, ap₂, if◌then◌else◌, ◌&&◌, nat_lt, nat_le, ◌⊎◌, arith}
 use Rattle.std.proofs.lemmas.List.{length-set, length-take, length-drop, take-append-drop, get_or-take, get_or-drop, set-append_left, set-append_right}
 use Rattle.std.proofs.lemmas.Bool.Decides.{nat_tests}
+use Rattle.std.proofs.lemmas.Grind.{common_steps}
 use Rattle.device.specs.Meaning.{Meaning}
 use Rattle.transfer.specs.declared.moves.Transfer.TheVariants.{Read, Write}
 use Rattle.transfer.specs.Symbols.{gather, send, packed, unpacked, stored, spread}
@@ -23,9 +24,7 @@ stored_within zero a ss xs ys zs h = refl
 stored_within (suc n) a [] xs ys zs h = refl
 stored_within (suc n) a (s ∷ ss) xs ys zs h =
     let w = packed 8 (s ∷ ss) in
-    let here : set (xs ++ (ys ++ zs)) (length xs + a) w ≡ xs ++ (set ys a w ++ zs) =
-    let back : length xs + a - length xs ≡ a = omega arith in
-    set-append_right xs (ys ++ zs) (length xs) (length xs + a) w refl (omega arith) ∙ ap (λ i. xs ++ set (ys ++ zs) i w) back ∙ ap (λ l. xs ++ l) (set-append_left ys zs a w (omega arith)) in
+    let here : set (xs ++ (ys ++ zs)) (length xs + a) w ≡ xs ++ (set ys a w ++ zs) = grind (arith, common_steps, set-append_left ys zs a w, set-append_right xs (ys ++ zs) (length xs) (length xs + a) w) in
     let next : length xs + a + 1 ≡ length xs + (a + 1) = omega arith in
     ap₂ (λ i l. stored n i (drop 8 (s ∷ ss)) l) next here ∙ stored_within n (a + 1) (drop 8 (s ∷ ss)) xs (set ys a w) zs (omega (arith, length-set ys a w))
 
@@ -65,23 +64,15 @@ module _ (ends : Bool) (i m start end : ℕ) (area : List ℕ) (d : Option Meani
 
   stored_there : (n : ℕ) (ss : List ℕ) → (n ≡ 0) ⊎ (i ≡ start) → stored n i ss area ≡ stored n start ss area
   unfolding stored
-  stored_there n ss (inl e) = rw e refl
-  stored_there n ss (inr e) = rw e refl
+  stored_there n ss e = grind arith
 
   spread_there : (n : ℕ) → (n ≡ 0) ⊎ (i ≡ start) → spread n i area ≡ spread n start area
   unfolding spread
-  spread_there n (inl e) = rw e refl
-  spread_there n (inr e) = rw e refl
+  spread_there n e = grind arith
 
   pub read_slice : (effect_of (Read ends) i m area d).area
       ≡ take start area ++ (stored (length words) 0 (gather ends (8 * length words) d).symbols words ++ drop (end - start) (drop start area))
-  read_slice =
-      ap (λ n. stored n i (gather ends (8 * n) d).symbols area) spanned
-      ∙ stored_there (length words) _ same_start
-      ∙ stored_part start (length words) _ area inside
-      ∙ ap (λ n. take start area ++ (stored (length words) 0 (gather ends (8 * length words) d).symbols (take n (drop start area)) ++ drop n (drop start area))) whole
+  read_slice = grind (arith, spanned, stored_there (length words) (gather ends (8 * length words) d).symbols same_start, stored_part start (length words) (gather ends (8 * length words) d).symbols area inside, whole)
 
   pub write_slice : effect_of (Write ends) i m area d ≡ write_effect area (send ends (spread (length words) 0 words) d)
-  write_slice =
-      ap (λ n. write_effect area (send ends (spread n i area) d)) spanned
-      ∙ ap (λ ss. write_effect area (send ends ss d)) (spread_there (length words) same_start ∙ spread_part start (length words) area ∙ ap (λ n. spread (length words) 0 (take n (drop start area))) whole)
+  write_slice = grind (arith, spanned, spread_there (length words) same_start, spread_part start (length words) area, whole)

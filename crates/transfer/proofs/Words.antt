@@ -1,5 +1,5 @@
 -- One word more of a transfer: a run of symbols by eights.
-use Rattle.std.proofs.Common.{◌≡◌, ℕ, zero, suc, ◌+◌, ◌*◌, ◌≤◌, Bool, true, false, cond, List, [], ◌∷◌, ◌++◌, length, get_or, set, Some, None, Option, Result, sym, refl, ap, ◌∙◌, ap₂, suc-add, zero-add, arith}
+use Rattle.std.proofs.Common.{◌≡◌, ℕ, zero, suc, ◌+◌, ◌*◌, ◌≤◌, Bool, true, false, cond, List, [], ◌∷◌, ◌++◌, length, get_or, set, Some, None, Option, Result, sym, refl, ap, suc-add, zero-add, arith}
 use Prim.Native.String.{String}
 use Rattle.std.proofs.lemmas.List.{length-append, drop_at, drop_all, set-get_or}
 use Rattle.std.proofs.lemmas.Bool.Decides.{nat_tests}
@@ -68,13 +68,13 @@ module _ (n a : ℕ) (area : List ℕ) where
   word_and : (xs ss : List ℕ) → length xs ≡ 8 → stored (suc n) a (xs ++ ss) area ≡ stored n (a + 1) ss (set area a (filled (get_or area a 0) xs))
   unfolding stored
   word_and [] ss e = absurd (omega arith)
-  word_and (x ∷ xs) ss e = ap₂ (λ (t : List ℕ) (w : ℕ). stored n (a + 1) t (set area a w)) (drop_at (x ∷ xs) ss 8 e) (packed_append 8 (x ∷ xs) ss e)
+  word_and (x ∷ xs) ss e = grind (arith, drop_at (x ∷ xs) ss 8 e, packed_append 8 (x ∷ xs) ss e)
 
   -- the last word
   word_alone : (xs : List ℕ) → length xs ≤ 8 → stored (suc n) a xs area ≡ set area a (filled (get_or area a 0) xs)
   unfolding stored
   word_alone [] h = sym (set-get_or area a 0)
-  word_alone (x ∷ xs) h = ap (λ (t : List ℕ). stored n (a + 1) t (set area a (packed 8 (x ∷ xs)))) (drop_all 8 (x ∷ xs) h) ∙ stored_none n (a + 1) _
+  word_alone (x ∷ xs) h = grind (arith, drop_all 8 (x ∷ xs) h, stored_none)
 
 -- one word more of m
 module _ (ends : Bool) (d after : Option Meaning) (ed : after ≡ (gather ends 8 d).device) (m m' : ℕ) (left : m ≡ suc m') where
@@ -84,40 +84,31 @@ module _ (ends : Bool) (d after : Option Meaning) (ed : after ≡ (gather ends 8
   abbrev rest : Run
   rest = gather ends (8 * m') after
 
-  split : (t : Bool) → is_all this.stop ≡ t → gather ends (8 * m) d ≡ cond t (record { symbols = this.symbols ++ rest.symbols; stop = rest.stop; device = rest.device }) this
-  split t e =
-      let eights : 8 * m ≡ 8 + 8 * m' = omega arith in
-      ap (λ i. gather ends i d) eights ∙ gather_add ends 8 (8 * m') d
-      ∙ ap (λ y. joined this (gather ends (8 * m') y)) (sym ed)
-      ∙ ap (λ u. cond u (record { symbols = this.symbols ++ rest.symbols; stop = rest.stop; device = rest.device }) this) e
+  split : gather ends (8 * m) d ≡ joined this rest
+  split = let eights : 8 * m ≡ 8 + 8 * m' = omega arith in grind (arith, eights, gather_add ends 8 (8 * m') d)
 
   module _ (area : List ℕ) (a cell : ℕ) (ec : cell ≡ filled (get_or area a 0) this.symbols) where
     -- a word that is full
     module _ (full : all ≡ this.stop) where
+      on : gather ends (8 * m) d ≡ record { symbols = this.symbols ++ rest.symbols; stop = rest.stop; device = rest.device }
+      on = grind (arith, nat_tests, split, ap is_all (sym full))
+
       pub words_more : stored m a (gather ends (8 * m) d).symbols area ≡ stored m' (a + 1) rest.symbols (set area a cell)
-      words_more =
-          ap₂ (λ (i : ℕ) (r : Run). stored i a r.symbols area) left (split true (ap is_all (sym full)))
-          ∙ word_and m' a area this.symbols rest.symbols (all_came ends 8 d (ap is_all (sym full)))
-          ∙ ap (λ w. stored m' (a + 1) rest.symbols (set area a w)) (sym ec)
+      words_more = grind (arith, on, word_and m' a area this.symbols rest.symbols (all_came ends 8 d (ap is_all (sym full))))
 
       pub count_more : count (gather ends (8 * m) d) ≡ record { moved = length this.symbols + length rest.symbols; stop = rest.stop; device = rest.device }
-      count_more =
-          ap count (split true (ap is_all (sym full)))
-          ∙ ap (λ i. record { moved = i; stop = rest.stop; device = rest.device }) (length-append this.symbols rest.symbols)
+      count_more = grind (arith, on, length-append this.symbols rest.symbols)
 
     -- or the last one
     module _ (stop : Stopped) (stopped : stop_of (Some stop) ≡ this.stop) where
-      ended : is_all this.stop ≡ false
-      ended = ap is_all (sym stopped) ∙ stops_early stop
+      off : gather ends (8 * m) d ≡ this
+      off = grind (arith, nat_tests, split, ap is_all (sym stopped), stops_early stop)
 
       pub words_last : stored m a (gather ends (8 * m) d).symbols area ≡ set area a cell
-      words_last =
-          ap₂ (λ (i : ℕ) (r : Run). stored i a r.symbols area) left (split false ended)
-          ∙ word_alone m' a area this.symbols (most ends 8 d)
-          ∙ ap (set area a) (sym ec)
+      words_last = grind (arith, off, word_alone m' a area this.symbols (most ends 8 d))
 
       pub count_last : count (gather ends (8 * m) d) ≡ count this
-      count_last = ap count (split false ended)
+      count_last = ap count off
 
 -- no word is left
 pub nothing_left : (ends : Bool) (d : Option Meaning) (m a : ℕ) (area : List ℕ) → m ≡ 0 → stored m a (gather ends (8 * m) d).symbols area ≡ area

@@ -1,4 +1,3 @@
-pub mod QStore
 pub mod Registers
 pub mod Sound
 pub mod Enough

@@ -9,11 +9,11 @@
 --   go_if b a    a jump to place a if b; overflow_if b: V set if b
 --   push_number  the word of a number onto the nest, V set if the number is that of no word
 --   with_..      one register replaced
-use Rattle.std.specs.Prelude.{ℕ, Bool, false, cond, ◌||◌, List, [], ◌∷◌, ℤ}
+use Rattle.std.specs.Prelude.{ℕ, Bool, false, cond, ◌||◌, List, [], ◌∷◌, ℤ, drop, replicate, ◌==◌, slice_index, slice_index_or, slice_set}
 use Rattle.word.specs.Wrap.{wrap, signed, outside}
+use Rattle.word.specs.Qs.{parts}
 use Rattle.word.specs.declared.q.Q.{Q}
 use Rattle.word.specs.declared.word.Word.{Word}
-use Rattle.registers.specs.QStore.{no_qs, q_at, q_put}
 
 -- what the registers hold, nest and links with the newest first
 pub record Regs : Type 0 where
@@ -29,46 +29,37 @@ abbrev pub bits_of : Word → ℕ
 bits_of w = w.bits
 
 abbrev pub no_regs : Regs
-no_regs = record { nest = []; links = []; qs = no_qs; overflow = false; test = false; place = 0 }
+no_regs = record { nest = []; links = []; qs = replicate 16 (parts 0 0 0); overflow = false; test = false; place = 0 }
 
 -- one register changed
 
 abbrev pub with_nest : List ℕ → Regs → Regs
-with_nest x r = record { nest = x; links = r.links; qs = r.qs; overflow = r.overflow; test = r.test; place = r.place }
+with_nest x r = record r { nest = x }
 
 abbrev pub with_links : List ℕ → Regs → Regs
-with_links x r = record { nest = r.nest; links = x; qs = r.qs; overflow = r.overflow; test = r.test; place = r.place }
+with_links x r = record r { links = x }
 
 abbrev pub with_qs : List Q → Regs → Regs
-with_qs x r = record { nest = r.nest; links = r.links; qs = x; overflow = r.overflow; test = r.test; place = r.place }
+with_qs x r = record r { qs = x }
 
 abbrev pub with_overflow : Bool → Regs → Regs
-with_overflow x r = record { nest = r.nest; links = r.links; qs = r.qs; overflow = x; test = r.test; place = r.place }
+with_overflow x r = record r { overflow = x }
 
 abbrev pub with_test : Bool → Regs → Regs
-with_test x r = record { nest = r.nest; links = r.links; qs = r.qs; overflow = r.overflow; test = x; place = r.place }
+with_test x r = record r { test = x }
 
 abbrev pub with_place : ℕ → Regs → Regs
-with_place x r = record { nest = r.nest; links = r.links; qs = r.qs; overflow = r.overflow; test = r.test; place = x }
-
--- the first of a list, 0 if there is none, and the others
-abbrev pub hd : List ℕ → ℕ
-hd [] = 0
-hd (x ∷ xs) = x
-
-abbrev pub tl : List ℕ → List ℕ
-tl [] = []
-tl (x ∷ xs) = xs
+with_place x r = record r { place = x }
 
 -- the words on top of the nest
 abbrev pub N1 : Regs → ℕ
-N1 r = hd r.nest
+N1 r = slice_index r.nest 0
 
 abbrev pub N2 : Regs → ℕ
-N2 r = hd (tl r.nest)
+N2 r = slice_index r.nest 1
 
 abbrev pub N3 : Regs → ℕ
-N3 r = hd (tl (tl r.nest))
+N3 r = slice_index r.nest 2
 
 -- N1 and N2 as two's complement numbers
 abbrev pub signed_n1 : Regs → ℤ
@@ -79,10 +70,10 @@ signed_n2 r = signed 48 (N2 r)
 
 -- the newest link, and Q number q
 abbrev pub link : Regs → ℕ
-link r = hd r.links
+link r = slice_index r.links 0
 
 abbrev pub q_of : ℕ → Regs → Q
-q_of q r = q_at q r.qs
+q_of q r = slice_index_or r.qs q (parts 0 0 0)
 
 -- the changes that the orders are made of
 
@@ -91,18 +82,18 @@ abbrev pub push : ℕ → Regs → Regs
 push x r = with_nest (x ∷ r.nest) r
 
 abbrev pub pop : Regs → Regs
-pop r = with_nest (tl r.nest) r
+pop r = with_nest (drop 1 r.nest) r
 
 -- a place onto the links, and the newest removed
 abbrev pub push_link : ℕ → Regs → Regs
 push_link x r = with_links (x ∷ r.links) r
 
 abbrev pub pop_link : Regs → Regs
-pop_link r = with_links (tl r.links) r
+pop_link r = with_links (drop 1 r.links) r
 
 -- a write to Q0 is lost
 abbrev pub put_q : ℕ → Q → Regs → Regs
-put_q q x r = with_qs (q_put q x r.qs) r
+put_q q x r = with_qs (cond (q == 0) r.qs (slice_set r.qs q x)) r
 
 -- V is set if b, and stays set
 abbrev pub overflow_if : Bool → Regs → Regs

@@ -24,17 +24,16 @@ pub struct Registers {
 
 // At most 16 words and 16 links; sixteen Qs, of which Q0 is zero.
 impl Model for Registers {
-    ghost use Rattle.std.specs.Prelude.{◌≡◌, ◌≤◌, length, map, reverse};
+    ghost use Rattle.std.specs.Prelude.{◌≡◌, ◌≤◌, length, map, reverse, slice_index_or};
     ghost use Rattle.arrayvec.specs.ArrayVec.{array_vec_len};
     ghost use Rattle.word.specs.Qs.{parts};
-    ghost use Rattle.registers.specs.QStore.{q_at};
     ghost use Rattle.registers.specs.Registers.{Regs, bits_of};
 
     ghost Value = { Regs };
 
     ghost view = { λ r. record { nest = map bits_of (reverse r.nest.items); links = reverse r.links.items; qs = r.qs; overflow = r.overflow; test = r.test; place = r.place } };
 
-    ghost invariant = { λ r. record { nest_fits : array_vec_len r.nest ≤ 16; links_fit : array_vec_len r.links ≤ 16; sixteen : length r.qs ≡ 16; zero : q_at 0 r.qs ≡ parts 0 0 0 } };
+    ghost invariant = { λ r. record { nest_fits : array_vec_len r.nest ≤ 16; links_fit : array_vec_len r.links ≤ 16; sixteen : length r.qs ≡ 16; zero : slice_index_or r.qs 0 (parts 0 0 0) ≡ parts 0 0 0 } };
 }
 
 impl Registers {

@@ -6,7 +6,6 @@ use Rattle.std.proofs.lemmas.Bool.{cases_eq, cond-true, cond-false, le-ltb, eq-e
 use Rattle.outlook.specs.Own.{Own}
 use Rattle.program.specs.Kept.{update}
 use Rattle.program.specs.Told.{Told}
-use Rattle.program.proofs.Changes.{nothing_changed}
 use Rattle.buffers.specs.Buffers.{holds}
 use Rattle.host.specs.World.{World, Program, own_in, with_own, put}
 use Rattle.host.specs.Causes.{Cause, Ending}
@@ -50,7 +49,7 @@ step_granted p w e = at (w.slots p) refl
 -- what a program owns, put back
 pub put_own : (p : ℕ) (g : Program) (w : World) → w.slots p ≡ Some g → g.base + g.size ≤ length w.store → put p g (own_in p g w) w ≡ w
 put_own p g w there inside =
-    sym (put_back p g w (own_in p g w) w.store w.slots w.buffers w.bank (nothing_changed p w.buffers w.bank)
+    sym (put_back p g w (own_in p g w) w.store w.slots w.buffers w.bank (record { owners = λ k. refl; others = λ k h. refl; devices = λ k h. refl })
     (sym (put_same g.base g.size w.store inside)) (fun_ext slot) refl)
   where
     slot : (k : ℕ) → w.slots k ≡ update w.slots p (Some g) k

@@ -2,17 +2,23 @@
 use crate::calls::call;
 use arrayvec::ArrayVec;
 
-// At most eight numbers; nothing where a piece is no number.
-fn numbers(text: &str) -> Option<ArrayVec<i128, 8>> {
+// No function takes or answers so many numbers.
+const TOO_MANY: usize = 9;
+
+// The numbers of a text, of which those past the ninth are not kept; nothing where a piece is no number.
+fn numbers(text: &str) -> Option<ArrayVec<i128, TOO_MANY>> {
     let mut all = ArrayVec::new();
     for piece in text.split_whitespace() {
-        all.try_push(piece.parse::<i128>().ok()?).ok()?;
+        let number = piece.parse::<i128>().ok()?;
+        if !all.is_full() {
+            all.push(number);
+        }
     }
     Some(all)
 }
 
 // The results of a line; `none` stands for no result.
-fn results(text: &str) -> Option<ArrayVec<i128, 8>> {
+fn results(text: &str) -> Option<ArrayVec<i128, TOO_MANY>> {
     if text == "none" {
         Some(ArrayVec::new())
     } else {

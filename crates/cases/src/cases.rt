@@ -19,18 +19,28 @@ struct Case {
 #[derive(Drop)]
 pub struct Cases {
     // the case that is read
-    case: Option<Case>,
+    case: Case,
     count: u32,
     differing: u32,
 }
 
+impl Case {
+    fn new(heap: Global, name: &str) -> Result<Case, Fault> {
+        Ok(Case {
+            name: String::from_str(heap, name)?,
+            machine: Machine::new(heap)?,
+            differs: false,
+        })
+    }
+}
+
 impl Cases {
-    pub(crate) fn new() -> Cases {
-        Cases {
-            case: None,
+    pub(crate) fn new(heap: Global) -> Result<Cases, Fault> {
+        Ok(Cases {
+            case: Case::new(heap, "before the first case")?,
             count: 0,
             differing: 0,
-        }
+        })
     }
 
     // One line; what follows # is a comment.
@@ -49,32 +59,30 @@ impl Cases {
         if keyword == "case" {
             return Ok(self.begin(rt.alloc(), rest)?);
         }
-        let Some(case) = &mut self.case else {
-            return Err(anyhow!("line {number} stands before the first case"));
-        };
-        match carry_out(rt.alloc(), &mut case.machine, keyword, rest) {
-            Ok(()) => return Ok(()),
-            Err(Fault::Memory(e)) => return Err(e.into()),
+        match carry_out(rt.alloc(), &mut self.case.machine, keyword, rest) {
+            Ok(()) => Ok(()),
+            Err(Fault::Memory(e)) => Err(e.into()),
             Err(fault) => {
-                let name = &case.name;
-                println!(rt; "{name}, line {number}: {line}, {fault}")?;
+                self.differ();
+                let name = &self.case.name;
+                Ok(println!(rt; "{name}, line {number}: {line}, {fault}")?)
             }
         }
-        if !case.differs {
-            case.differs = true;
-            self.differing = self.differing.saturating_add(1);
-        }
-        Ok(())
     }
 
     fn begin(&mut self, heap: Global, name: &str) -> Result<(), Fault> {
-        self.case = Some(Case {
-            name: String::from_str(heap, name)?,
-            machine: Machine::new(heap)?,
-            differs: false,
-        });
+        self.case = Case::new(heap, name)?;
         self.count = self.count.saturating_add(1);
         Ok(())
+    }
+
+    // The case differs; it counts once, and so does what stands before the first case.
+    fn differ(&mut self) {
+        self.count = self.count.max(1);
+        if !self.case.differs {
+            self.case.differs = true;
+            self.differing = self.differing.saturating_add(1);
+        }
     }
 
     pub(crate) fn print(&self, rt: &HostRuntime) -> anyhow::Result<()> {

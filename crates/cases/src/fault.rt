@@ -17,7 +17,7 @@ pub enum Fault {
     Range(#[from] TryFromIntError),
     #[error("which cannot be read")]
     Input(#[from] InputRefusal),
-    #[error("which a device refuses: {0}")]
+    #[error("which cannot be read")]
     Device(#[from] Refusal),
     #[error("which cannot be read")]
     Order(#[from] Undecoded),

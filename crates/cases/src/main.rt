@@ -15,7 +15,7 @@ use std::fs;
 
 fn run(rt: &HostRuntime) -> anyhow::Result<()> {
     let text = fs::read_to_string(rt, "cases.txt")?;
-    let mut cases = Cases::new();
+    let mut cases = Cases::new(rt.alloc())?;
     for (before, line) in text.as_str().lines().enumerate() {
         cases.take(rt, before.wrapping_add(1), line)?;
     }

@@ -7,10 +7,13 @@ pub const WORDS: i128 = 1 << 48;
 
 pub const PARTS: i128 = 1 << 16;
 
-// The numbers of a text, those of a Q between strokes.
+// The numbers of a text, the three of a Q between strokes.
 pub(crate) fn numbers(heap: Global, text: &str) -> Result<Vec<i128>, Fault> {
     let mut all = Vec::new(heap);
     for piece in text.split_whitespace() {
+        if !matches!(piece.split('/').count(), 1 | 3) {
+            return Err(Fault::Unreadable);
+        }
         for number in piece.split('/') {
             all.push(number.parse::<i128>()?)?;
         }

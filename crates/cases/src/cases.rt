@@ -62,6 +62,7 @@ impl Cases {
         match carry_out(rt.alloc(), &mut self.case.machine, keyword, rest) {
             Ok(()) => Ok(()),
             Err(Fault::Memory(e)) => Err(e.into()),
+            Err(Fault::Input(e)) => Err(e.into()),
             Err(fault) => {
                 self.differ();
                 let name = &self.case.name;

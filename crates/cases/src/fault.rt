@@ -15,7 +15,7 @@ pub enum Fault {
     Digits(#[from] ParseIntError),
     #[error("which cannot be read")]
     Range(#[from] TryFromIntError),
-    #[error("which cannot be read")]
+    #[error(transparent)]
     Input(#[from] InputRefusal),
     #[error("which cannot be read")]
     Device(#[from] Refusal),

@@ -4,7 +4,6 @@ use crate::machine::Machine;
 use buffers::buffer::Work;
 use device::bank::Bank;
 use device::device::Device;
-use order::code::QNumber;
 use registers::registers::Registers;
 use std::alloc::{AllocError, Global};
 
@@ -14,11 +13,11 @@ pub(crate) fn found(
     keyword: &str,
     said: &[i128],
 ) -> Result<Vec<i128>, Fault> {
-    let one = match keyword {
-        "place" => i128::from(machine.regs.place()),
-        "count" => i128::from(machine.count),
-        "v" => i128::from(machine.regs.overflow()),
-        "t" => i128::from(machine.regs.test()),
+    let one = match (keyword, said) {
+        ("place", [_, ..]) => i128::from(machine.regs.place()),
+        ("count", [_, ..]) => i128::from(machine.count),
+        ("v", [_, ..]) => i128::from(machine.regs.overflow()),
+        ("t", [_, ..]) => i128::from(machine.regs.test()),
         _ => return found_list(heap, machine, keyword, said),
     };
     Ok(Vec::from_slice(heap, &[one])?)
@@ -35,11 +34,11 @@ fn found_list(
         ("links", _) => Ok(links(heap, &machine.regs)?),
         ("changed", _) => Ok(changed(heap, machine)?),
         ("punched", _) => Ok(punched(heap, machine)?),
-        ("word", [at, after @ ..]) => entries(heap, machine.area.as_slice(), *at, after.len()),
-        ("q", [n, ..]) => q(heap, &machine.regs, *n),
-        ("idle" | "seeking" | "moving", [n, ..]) => work(heap, machine, keyword, *n),
-        ("head", [n, ..]) => head(heap, machine, *n),
-        ("cells", [n, from, symbols @ ..]) => cells(heap, machine, *n, *from, symbols.len()),
+        ("word", [at, after @ ..]) => Ok(entries(heap, machine.area.as_slice(), *at, after.len())?),
+        ("q", [n, ..]) => Ok(q(heap, &machine.regs, *n)?),
+        ("idle" | "seeking" | "moving", [n, ..]) => Ok(work(heap, machine, keyword, *n)?),
+        ("head", [n, ..]) => Ok(head(heap, machine, *n)?),
+        ("cells", [n, from, symbols @ ..]) => Ok(cells(heap, machine, *n, *from, symbols.len())?),
         _ => Err(Fault::Unreadable),
     }
 }
@@ -81,27 +80,36 @@ fn punched(heap: Global, machine: &Machine) -> Result<Vec<i128>, AllocError> {
     cells.iter().map(|symbol| i128::from(*symbol)).collect(heap)
 }
 
-// An address, and so many entries from it on.
-fn entries(heap: Global, area: &[u64], at: i128, count: usize) -> Result<Vec<i128>, Fault> {
+// An address, and the entries from it on, at most so many.
+fn entries(heap: Global, area: &[u64], at: i128, count: usize) -> Result<Vec<i128>, AllocError> {
     let mut all = Vec::from_slice(heap, &[at])?;
-    for entry in area.iter().skip(usize::try_from(at)?).take(count) {
-        all.push(i128::from(*entry))?;
+    if let Ok(start) = usize::try_from(at) {
+        for entry in area.iter().skip(start).take(count) {
+            all.push(i128::from(*entry))?;
+        }
     }
     Ok(all)
 }
 
-// The number of a Q, and its parts.
-fn q(heap: Global, regs: &Registers, n: i128) -> Result<Vec<i128>, Fault> {
-    let q = regs.q_of(QNumber::try_from(u8::try_from(n)?)?);
-    Ok(Vec::from_slice(
-        heap,
-        &[n, i128::from(q.c), i128::from(q.i), i128::from(q.m)],
-    )?)
+// The number of a Q, and its parts, if there is one of that number.
+fn q(heap: Global, regs: &Registers, n: i128) -> Result<Vec<i128>, AllocError> {
+    let mut all = Vec::from_slice(heap, &[n])?;
+    if let Ok(i) = usize::try_from(n)
+        && let Some(q) = regs.q(i)
+    {
+        for part in [q.c, q.i, q.m] {
+            all.push(i128::from(part))?;
+        }
+    }
+    Ok(all)
 }
 
 // The number of a buffer, and the words that it moves, if it is at that work.
-fn work(heap: Global, machine: &Machine, keyword: &str, n: i128) -> Result<Vec<i128>, Fault> {
-    match (keyword, machine.buffers.record(u16::try_from(n)?).work) {
+fn work(heap: Global, machine: &Machine, keyword: &str, n: i128) -> Result<Vec<i128>, AllocError> {
+    let Ok(buffer) = u16::try_from(n) else {
+        return Ok(Vec::new(heap));
+    };
+    match (keyword, machine.buffers.record(buffer).work) {
         ("idle", Work::Idle) | ("seeking", Work::Seeking) => Ok(Vec::from_slice(heap, &[n])?),
         ("moving", Work::Moving(i, m)) => {
             Ok(Vec::from_slice(heap, &[n, i128::from(i), i128::from(m)])?)
@@ -110,25 +118,34 @@ fn work(heap: Global, machine: &Machine, keyword: &str, n: i128) -> Result<Vec<i
     }
 }
 
-// The number of a buffer, and the head of the device there.
-fn head(heap: Global, machine: &Machine, n: i128) -> Result<Vec<i128>, Fault> {
-    let cell = machine.bank.head(u8::try_from(n)?)?;
-    Ok(Vec::from_slice(heap, &[n, i128::from(cell)])?)
+// The number of a buffer, and the head of the device there, if there is one.
+fn head(heap: Global, machine: &Machine, n: i128) -> Result<Vec<i128>, AllocError> {
+    let mut all = Vec::from_slice(heap, &[n])?;
+    if let Ok(buffer) = u8::try_from(n)
+        && let Ok(cell) = machine.bank.head(buffer)
+    {
+        all.push(i128::from(cell))?;
+    }
+    Ok(all)
 }
 
-// The number of a buffer, a cell, and the symbols from it on. The head comes to stand behind them.
+// The number of a buffer, a cell, and the symbols from it on, as far as they are read. The head comes to stand behind them.
 fn cells(
     heap: Global,
     machine: &mut Machine,
     n: i128,
     from: i128,
     count: usize,
-) -> Result<Vec<i128>, Fault> {
+) -> Result<Vec<i128>, AllocError> {
     let mut all = Vec::from_slice(heap, &[n, from])?;
-    let n = u8::try_from(n)?;
-    machine.bank.seek(n, u16::try_from(from)?)?;
+    let (Ok(buffer), Ok(cell)) = (u8::try_from(n), u16::try_from(from)) else {
+        return Ok(all);
+    };
+    let _ = machine.bank.seek(buffer, cell);
     for _ in 0..count {
-        all.push(i128::from(machine.bank.read(n)?))?;
+        if let Ok(symbol) = machine.bank.read(buffer) {
+            all.push(i128::from(symbol))?;
+        }
     }
     Ok(all)
 }

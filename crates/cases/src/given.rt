@@ -27,7 +27,7 @@ pub(crate) fn give_code(heap: Global, machine: &mut Machine, rest: &str) -> Resu
     let place = place.parse::<u16>()?;
     let code = bytes(heap, code)?;
     for (i, byte) in code.iter().enumerate() {
-        let at = place.wrapping_add(u16::try_from(i)?);
+        let at = place.wrapping_add(u16::try_from(i % 0x1_0000)?);
         put_byte(machine.area.as_mut_slice(), at, *byte)?;
     }
     Ok(())
@@ -73,11 +73,12 @@ fn give_size(heap: Global, machine: &mut Machine, n: i128) -> Result<(), Fault> 
 // Entries from an address on.
 fn give_words(area: &mut [u64], at: i128, entries: &[i128]) -> Result<(), Fault> {
     let at = usize::try_from(at)?;
-    if area.len().saturating_sub(at) < entries.len() {
-        return Err(Fault::Unreadable);
-    }
+    let room = area.len().saturating_sub(at);
     for (entry, n) in area.iter_mut().skip(at).zip(entries) {
         *entry = u64::try_from(*n)?;
+    }
+    if room < entries.len() {
+        return Err(Fault::Unreadable);
     }
     Ok(())
 }

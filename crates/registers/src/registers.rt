@@ -12,7 +12,7 @@ mod changes;
 mod readers;
 
 // The newest of nest and links is the last.
-#[derive(Drop)]
+#[derive(Clone, Drop)]
 pub struct Registers {
     nest: ArrayVec<Word, 16>,
     links: ArrayVec<u16, 16>,

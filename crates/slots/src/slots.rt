@@ -1,5 +1,6 @@
 // The slots P, Q, R and S, numbered 0 to 3.
 ghost use Rattle.std.specs.Prelude.{◌≡◌, length};
+ghost use Rattle.registers.specs.Sound.{Sound};
 
 use crate::area::Area;
 use registers::registers::Registers;
@@ -22,6 +23,7 @@ pub struct Program {
     area: Area,
     registers: Registers,
     stopped: bool,
+    ghost sound: { Sound registers },
 }
 
 // In each slot a program, or nothing.

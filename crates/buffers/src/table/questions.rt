@@ -1,5 +1,5 @@
 // What can be asked of the buffers.
-ghost use Rattle.std.specs.Prelude.{◌≡◌, ◌<◌, true, false, ◌&&◌};
+ghost use Rattle.std.specs.Prelude.{◌≡◌, ◌&&◌};
 ghost use Rattle.buffers.specs.Buffers.{records, work_of, locked_between, busy_of, any_below, is_moving};
 
 use super::Buffers;

@@ -12,9 +12,11 @@ impl Program {
     pub(super) fn new(area: Area) -> Program
         ensures { program_of result ≡ fresh area.base area.size }
     {
+        let registers = Registers::new();
+        registers.sound();
         Program {
             area,
-            registers: Registers::new(),
+            registers,
             stopped: false,
         }
     }

@@ -42,14 +42,11 @@ impl Program {
         requires ahead { (ready : Bool) (bank : ℕ → Option Meaning) → Ok next ≡ foreseen (own_of p self.old.registers (part self.old.area.base self.old.area.size store.old) ready (records buffers.old.table) bank) }
         ensures { Carried p (program_of self.old) (program_of self.new) store.old store.new (records buffers.old.table) (records buffers.new.table) (standing (B.devices bank.old)) (standing (B.devices bank.new)) (told result) }
     {
-        carry_next(
-            next,
-            p,
-            &mut self.registers,
-            &mut store[self.area.range()],
-            buffers,
-            bank,
-        )
+        let area = &mut store[self.area.range()];
+        let registers = &mut self.registers;
+        let outcome = carry_next(next, p, registers, area, buffers, bank);
+        registers.sound();
+        outcome
     }
 }
 

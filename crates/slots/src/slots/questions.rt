@@ -1,5 +1,5 @@
 // What can be asked of the slots.
-ghost use Rattle.std.specs.Prelude.{◌≡◌, is_some, None, Option, option_copied, slice_index_or};
+ghost use Rattle.std.specs.Prelude.{◌≡◌, is_some, None, option_copied, slice_index_or};
 ghost use Rattle.host.specs.Calls.{overlaps, cut_off};
 ghost use Rattle.host.specs.Steps.{place_of};
 ghost use Rattle.slots.specs.Held.{program_at, asked, state_is, area_of, regs_held};

@@ -147,16 +147,16 @@ fn compare(heap: Global, machine: &mut Machine, keyword: &str, said: &[i128]) ->
     Err(Fault::Differs(format!(in heap; "{found:?}")?))
 }
 
-// A number below 0 is found as the word, or the part of a Q, that it stands for.
+// A number below 0 is also found as the word, or the part of a Q, that it stands for.
 fn agree(keyword: &str, said: &[i128], found: &[i128]) -> bool {
     let count = match keyword {
-        "nest" => WORDS,
-        "q" => PARTS,
-        _ => 0,
+        "nest" => Some(WORDS),
+        "q" => Some(PARTS),
+        _ => None,
     };
     said.len() == found.len()
-        && said
-            .iter()
-            .zip(found)
-            .all(|(x, y)| without_sign(*x, count) == *y)
+        && said.iter().zip(found).all(|(x, y)| match count {
+            Some(count) => *x == *y || without_sign(*x, count) == *y,
+            None => *x == *y,
+        })
 }

@@ -1,6 +1,6 @@
 -- The registers of a program: what they hold, and how an order names and changes them.
 --   Regs         what the registers hold; nest and links begin with the newest
---   bits_of      the number that the bits of a word are
+--   bits_of      the number that the bits of a word are; word_of: the word of a number
 --   no_regs      what new registers hold
 --   N1, N2, N3   the words on top of the nest; signed_n1, signed_n2: as numbers
 --   link, q_of   the newest link, and the Q of a number
@@ -9,7 +9,11 @@
 --   go_if b a    a jump to place a if b; overflow_if b: V set if b
 --   push_number  the word of a number onto the nest, V set if the number is that of no word
 --   with_..      one register replaced
-use Rattle.std.specs.Prelude.{ℕ, Bool, false, cond, ◌||◌, List, [], ◌∷◌, ℤ, drop, replicate, ◌==◌, slice_index, slice_index_or, slice_set}
+use Rattle.std.specs.Prelude.{◌≡◌, ℕ, ◌%◌, ◌^◌, ◌<◌, Bool, false, cond, ◌||◌, List, [], ◌∷◌, map, ℤ, drop, replicate, ◌==◌, slice_index, slice_index_or, slice_set}
+use Rattle.std.proofs.Common.{lit<, refl, ap₂}
+use Rattle.std.proofs.Math.Nat.{mod-lt, mod-eq_of_lt}
+use Rattle.std.specs.Coded.{le_prop}
+use mathlib.Core.HLevel.{is_prop→PathP}
 use Rattle.word.specs.Wrap.{wrap, signed, outside}
 use Rattle.word.specs.Qs.{parts}
 use Rattle.word.specs.declared.q.Q.{Q}
@@ -27,6 +31,18 @@ pub record Regs : Type 0 where
 -- the number that the bits of a word are
 abbrev pub bits_of : Word → ℕ
 bits_of w = w.bits
+
+-- the word of the low 48 bits of a number
+abbrev pub word_of : ℕ → Word
+word_of n = record { bits = n % 2 ^ 48; ok = mod-lt n (lit< tt) }
+
+-- words of the same bits are the same, and a word is that of its bits
+pub same_word : (v w : Word) → v.bits ≡ w.bits → v ≡ w
+same_word v w e = λ i. record { bits = e i; ok = is_prop→PathP (λ j. e j < 2 ^ 48) (λ j. le_prop) v.ok w.ok i }
+
+pub word_of-bits_of : (ws : List Word) → map word_of (map bits_of ws) ≡ ws
+word_of-bits_of [] = refl
+word_of-bits_of (w ∷ ws) = ap₂ ◌∷◌ (same_word (word_of w.bits) w (mod-eq_of_lt w.ok)) (word_of-bits_of ws)
 
 abbrev pub no_regs : Regs
 no_regs = record { nest = []; links = []; qs = replicate 16 (parts 0 0 0); overflow = false; test = false; place = 0 }

@@ -18,7 +18,7 @@ pub enum State {
 }
 
 // A program in a slot. It is ready, or stopped.
-#[derive(Drop)]
+#[derive(Clone, Copy)]
 pub struct Program {
     area: Area,
     registers: Registers,
@@ -27,7 +27,7 @@ pub struct Program {
 }
 
 // In each slot a program, or nothing.
-#[derive(Drop)]
+#[derive(Clone, Copy)]
 pub struct Slots {
     table: [Option<Program>; 4],
     ghost four: { length table ≡ 4 },

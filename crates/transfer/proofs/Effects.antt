@@ -12,7 +12,7 @@ use Rattle.transfer.proofs.Words.{gather_nothing}
 use Rattle.transfer.proofs.Sending.{send_nothing}
 
 -- where nothing stands, nothing stands after a move
-nothing_after : (x : Move) (area : List ℕ) (d : Option Meaning) → d ≡ None → (effect x area d).device ≡ None
+pub nothing_after : (x : Move) (area : List ℕ) (d : Option Meaning) → d ≡ None → (effect x area d).device ≡ None
 nothing_after x area d e = grind (arith, gather_nothing, send_nothing)
 
 length_stored : (n a : ℕ) (ss area : List ℕ) → length (stored n a ss area) ≡ length area
@@ -21,7 +21,7 @@ length_stored (suc n) a (s ∷ ss) area = grind (arith, length-set, length_store
 length_stored n a ss area = refl
 
 -- an area keeps its length
-effect_length : (x : Move) (area : List ℕ) (d : Option Meaning) → length (effect x area d).area ≡ length area
+pub effect_length : (x : Move) (area : List ℕ) (d : Option Meaning) → length (effect x area d).area ≡ length area
 effect_length x area d = grind (arith, length_stored)
 
 pub in_turn_length : (xs : List Move) (area : List ℕ) (d : Option Meaning) → length (in_turn xs area d).area ≡ length area

@@ -32,7 +32,7 @@ pub record Going (whole rest : Run) (k w : ℕ) : Type 0 where
   pub word : w + packed k rest.symbols ≡ packed 8 whole.symbols
   pub room : w + 2 ^ (6 * k) ≤ 2 ^ 48
 
-packed_none : (k : ℕ) → packed k [] ≡ 0
+pub packed_none : (k : ℕ) → packed k [] ≡ 0
 unfolding packed
 packed_none zero = refl
 packed_none (suc k) = refl

@@ -33,7 +33,7 @@ unfolding send unpacked
 no_symbol ends d w k e = rw e refl
 
 -- what was sent, and more after it unless it was stopped
-abbrev joined : Sent → Sent → Sent
+abbrev pub joined : Sent → Sent → Sent
 joined r x = cond (is_all r.stop) (record { moved = r.moved + x.moved; stop = x.stop; device = x.device }) r
 
 module _ (ends : Bool) where
@@ -41,7 +41,7 @@ module _ (ends : Bool) where
       send_on ends s r d x ≡ joined (send_on ends s r d y) (send ends ys (send_on ends s r d y).device)
   join_on ys s r d x y h = grind (arith, nat_tests, h)
 
-  send_append : (xs ys : List ℕ) (d : Option Meaning) → send ends (xs ++ ys) d ≡ joined (send ends xs d) (send ends ys (send ends xs d).device)
+  pub send_append : (xs ys : List ℕ) (d : Option Meaning) → send ends (xs ++ ys) d ≡ joined (send ends xs d) (send ends ys (send ends xs d).device)
   unfolding send
   send_append [] ys d = grind (arith, nat_tests)
   send_append (x ∷ xs) ys d = join_on ys x (answer_of write_answer d) (after_of (λ m. write_after m x) d) _ _ (send_append xs ys (after_of (λ m. write_after m x) d))

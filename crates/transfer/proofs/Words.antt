@@ -58,7 +58,7 @@ packed_append zero xs ys e = refl
 packed_append (suc k) [] ys e = absurd (omega arith)
 packed_append (suc k) (x ∷ xs) ys e = grind (arith, packed_append k xs ys)
 
-stored_none : (n a : ℕ) (area : List ℕ) → stored n a [] area ≡ area
+pub stored_none : (n a : ℕ) (area : List ℕ) → stored n a [] area ≡ area
 unfolding stored
 stored_none zero a area = refl
 stored_none (suc n) a area = refl

@@ -1,5 +1,5 @@
 // What a host can ask, without changing anything.
-ghost use Rattle.std.specs.Prelude.{◌≡◌, option_copied};
+ghost use Rattle.std.specs.Prelude.{◌≡◌};
 ghost use Rattle.std.specs.Option.{option_map};
 ghost use Rattle.registers.specs.Registers.{bits_of};
 ghost use Rattle.buffers.specs.Buffers.{records, is_busy};
@@ -29,8 +29,8 @@ impl<B: Bank> Machine<B> {
     }
 
     // The registers of the program in a slot; nothing without a program.
-    pub fn registers(&self, slot: u8) -> Option<&Registers>
-        ensures { option_copied result ≡ asked regs_held self.now.slots slot }
+    pub fn registers(&self, slot: u8) -> Option<Registers>
+        ensures { result ≡ asked regs_held self.now.slots slot }
     {
         self.slots.registers(slot)
     }

@@ -25,7 +25,7 @@ impl Registers {
         ensures fewer { length self.new.nest + 1 ≡ length self.old.nest }
         ensures room { length self.new.nest < 16 }
     {
-        self.nest.pop().unwrap()
+        self.nest.pop(Word::default())
     }
 
     pub fn push_link(&mut self, x: u16)
@@ -41,7 +41,7 @@ impl Registers {
         ensures answer { result ≡ link self.old }
         ensures after { self.new ≡ pop_link self.old }
     {
-        self.links.pop().unwrap()
+        self.links.pop(0)
     }
 
     // A write to Q0 is lost.

@@ -34,28 +34,28 @@ impl Registers {
         ensures answer { result ≡ length self.now.nest }
         ensures within { result ≤ 16 }
     {
-        self.nest.len()
+        self.nest.depth()
     }
 
     pub fn link_depth(&self) -> usize
         ensures answer { result ≡ length self.now.links }
         ensures within { result ≤ 16 }
     {
-        self.links.len()
+        self.links.depth()
     }
 
     // N1 is number 0.
     pub fn nest_word(&self, i: usize) -> Option<Word>
         ensures { option_map bits_of result ≡ slice_get self.now.nest i }
     {
-        self.nest.as_slice().iter().rev().nth(i).copied()
+        self.nest.get(i)
     }
 
     // The newest is number 0.
     pub fn link(&self, i: usize) -> Option<u16>
         ensures { result ≡ slice_get self.now.links i }
     {
-        self.links.as_slice().iter().rev().nth(i).copied()
+        self.links.get(i)
     }
 
     pub fn q(&self, i: usize) -> Option<Q>

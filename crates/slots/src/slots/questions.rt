@@ -64,9 +64,9 @@ impl Slots {
     }
 
     // The registers of the program in a slot, if one is there.
-    pub fn registers(&self, p: u8) -> Option<&Registers>
-        ensures { option_copied result ≡ asked regs_held self.now p }
+    pub fn registers(&self, p: u8) -> Option<Registers>
+        ensures { result ≡ asked regs_held self.now p }
     {
-        self.program(p).map(|program| &program.registers)
+        self.program(p).map(|program| program.registers)
     }
 }

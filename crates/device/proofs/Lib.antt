@@ -1,5 +1,3 @@
 pub mod Cells
-pub mod Plugging
-pub mod Seen
 pub mod Standing
 pub mod Tables

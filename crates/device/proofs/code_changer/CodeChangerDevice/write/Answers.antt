@@ -1,4 +1,4 @@
-use Rattle.device.proofs.Seen.{write_changed}
+use Rattle.device.specs.Changing.{write_changed}
 use Rattle.device.proofs.code_changer.CodeChangerDevice.write.Goals as goal
 
 pub returns-clause-after : goal.returns-clause-after

@@ -1,5 +1,6 @@
 pub mod Powers
 pub mod Wrapping
+pub mod Undone
 pub mod Shifts
 pub mod Scale
 pub mod Round

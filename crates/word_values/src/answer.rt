@@ -1,4 +1,7 @@
 // What the functions of `word` answer.
+ghost use Rattle.std.specs.Prelude.{◌≡◌, ◌↔◌, IsTrue};
+ghost use Rattle.word_values.specs.Answers.{numbers_of};
+
 use word::q::Q;
 use word::word::{Checked, Word};
 
@@ -15,7 +18,9 @@ pub enum Answer {
 
 impl Answer {
     // Whether these are the numbers of the answer, and no others.
-    pub(crate) fn is(self, numbers: &[i128]) -> bool {
+    pub(crate) fn is(self, numbers: &[i128]) -> bool
+        ensures { IsTrue result ↔ (numbers.now ≡ numbers_of self) }
+    {
         match self {
             Answer::Turned(None) => numbers.is_empty(),
             Answer::Word(word) | Answer::Turned(Some(word)) => numbers

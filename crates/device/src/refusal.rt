@@ -1,5 +1,5 @@
 // Why a device, a bank, or a check of input refuses.
-ghost use Rattle.std.specs.Prelude.{◌≡◌, codes, Err};
+ghost use Rattle.std.specs.Prelude.{◌≡◌, codes, Err, Some};
 ghost use Rattle.device.specs.Meaning.{refused_write};
 ghost use Rattle.device.specs.Words.{number_of, words};
 
@@ -35,6 +35,8 @@ impl Refusal {
 }
 
 impl fmt::Display for Refusal {
+    ghost output = { λ refusal. Some (codes (words refusal)) };
+
     fn fmt<W: fmt::Write>(&self, f: &mut fmt::Formatter<W>) -> fmt::Result {
         f.write_str(self.words())
     }

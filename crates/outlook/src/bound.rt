@@ -1,5 +1,5 @@
 // The bounds that an order can break.
-ghost use Rattle.std.specs.Prelude.{◌≡◌, codes};
+ghost use Rattle.std.specs.Prelude.{◌≡◌, codes, Some};
 ghost use Rattle.outlook.specs.Words.{bound_number, violation_of, bound_words, violation_name, unreadable};
 
 use order::code::Undecoded;
@@ -96,6 +96,8 @@ impl Bound {
 }
 
 impl fmt::Display for Bound {
+    ghost output = { λ bound. Some (codes (bound_words bound)) };
+
     fn fmt<W: fmt::Write>(&self, f: &mut fmt::Formatter<W>) -> fmt::Result {
         f.write_str(self.words())
     }
@@ -128,6 +130,8 @@ impl Violation {
 }
 
 impl fmt::Display for Violation {
+    ghost output = { λ violation. Some (codes (violation_name violation)) };
+
     fn fmt<W: fmt::Write>(&self, f: &mut fmt::Formatter<W>) -> fmt::Result {
         f.write_str(self.name())
     }

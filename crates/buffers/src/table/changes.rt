@@ -5,6 +5,7 @@ ghost use Rattle.buffers.specs.declared.buffer.Work.TheVariants.{Idle};
 
 use super::Buffers;
 use crate::buffer::{Buffer, Work};
+use std::array;
 
 impl Buffers {
     // All free.
@@ -53,6 +54,7 @@ impl Buffers {
     pub fn release(&mut self, slot: u8)
         ensures { self.new.table ≡ map (released slot) self.old.table }
     {
-        self.table = self.table.map(|buffer| buffer.released_by(slot));
+        let table = self.table;
+        self.table = array::from_fn(|k| table[k].released_by(slot));
     }
 }

@@ -39,7 +39,7 @@ impl Buffers {
     pub fn any_busy(&self, slot: u8) -> bool
         ensures { result ≡ busy_of slot (records self.now.table) }
     {
-        self.table.iter().any(|buffer| buffer.is_busy_for(slot))
+        (0..16u8).any(|k| self.record(u16::from(k)).is_busy_for(slot))
     }
 
     pub(super) fn any_moving(&self) -> bool

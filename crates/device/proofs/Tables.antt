@@ -1,11 +1,12 @@
 -- How often a symbol stands in a table, and what it says of a table that each stands there once.
-use Rattle.std.proofs.Common.{◌≡◌, ℕ, zero, suc, ◌+◌, ◌<◌, ◌≤◌, Bool, true, false, cond, eqb, ltb, List, [], ◌∷◌, length, get_or, Some, None, count_by, position, sym, refl, ap, ◌∙◌, ⊎_elim, arith}
-use Rattle.std.specs.List.{position_or_len}
+use Rattle.std.proofs.Common.{◌≡◌, ℕ, zero, suc, ◌+◌, ◌<◌, ◌≤◌, Bool, true, false, not, cond, eqb, ltb, List, [], ◌∷◌, length, take, drop, get_or, Some, None, count_by, position, sym, refl, ap, ◌∙◌, ⊎_elim, arith}
+use Rattle.std.specs.List.{position_or_len, list_any}
 use Rattle.std.proofs.lemmas.List.{get_or_past}
 use Rattle.std.proofs.lemmas.List.Quantifiers.{position-Some}
 use Rattle.std.proofs.lemmas.List.Sums.{sum_by-cons, count_by-le-length}
-use Rattle.std.proofs.lemmas.Bool.{ltb-true, eqb-true, cases_lt, cases_eq, and_from, and_left, and_right}
+use Rattle.std.proofs.lemmas.Bool.{ltb-true, eqb-true, cases_Bool, cases_lt, cases_eq, and_from, and_left, and_right}
 use Rattle.std.proofs.lemmas.Bool.Decides.{nat_tests}
+use Rattle.std.proofs.lemmas.Grind.{common_steps}
 use Rattle.device.specs.Layers.{occurs, each_below}
 use Rattle.device.specs.Meaning.{Below}
 
@@ -20,6 +21,25 @@ none_pass p (x ∷ xs) h = let c = counted p x xs in let ih = none_pass p xs in 
 
 pub position_none : (p : ℕ → Bool) (xs : List ℕ) → position p xs ≡ None → count_by p xs ≡ 0
 position_none p xs e = none_pass p xs (grind (arith, nat_tests))
+
+-- some entry passes exactly where the count is not 0
+any_counted : (p : ℕ → Bool) (xs : List ℕ) → list_any p xs ≡ not (eqb (count_by p xs) 0)
+any_counted p [] = grind (arith, nat_tests)
+any_counted p (x ∷ xs) = let c = counted p x xs in let ih = any_counted p xs in ⊎_elim
+    (λ (t : p x ≡ true). rw (c, t) (grind (arith, nat_tests)))
+    (λ (f : p x ≡ false). rw (c, f) (grind (arith, nat_tests)))
+    (cases_Bool (p x))
+
+-- some entry behind the first that passes passes too exactly where the count is not 1
+any_past : (p : ℕ → Bool) (xs : List ℕ) → position_or_len p xs < length xs → list_any p (drop (position_or_len p xs + 1) xs) ≡ not (eqb (count_by p xs) 1)
+any_past p [] h = absurd (omega arith)
+any_past p (x ∷ xs) h = let c = counted p x xs in let a = any_counted p xs in let ih = any_past p xs in ⊎_elim
+    (λ (t : p x ≡ true). rw (c, t) (grind (arith, nat_tests)))
+    (λ (f : p x ≡ false). rw (c, f) (grind (arith, nat_tests)))
+    (cases_Bool (p x))
+
+pub any_behind : (p : ℕ → Bool) (xs : List ℕ) (i k : ℕ) → position p xs ≡ Some i → length xs ≤ i + 1 + k → list_any p (take k (drop (i + 1) xs)) ≡ not (eqb (count_by p xs) 1)
+any_behind p xs i k e long = let past = any_past p xs in grind (arith, common_steps)
 
 -- at its first place a symbol stands
 pub position_at : (s : ℕ) (xs : List ℕ) (i : ℕ) → position (λ x. eqb x s) xs ≡ Some i → (i < length xs) × (get_or xs i 0 ≡ s)

@@ -20,26 +20,22 @@ pub struct CodeTable {
 }
 
 // The first place of a symbol in a table.
-fn first_of(table: &[u8; 64], symbol: usize) -> Option<usize>
+fn first_of(table: &[u8; 64], symbol: u8) -> Option<usize>
     ensures { result ≡ position (λ x. x == symbol) table.now }
 {
-    table.iter().position(|entry| usize::from(*entry) == symbol)
+    table.iter().position(|entry| *entry == symbol)
 }
 
 // Where a symbol stands in a table, if it stands there once.
 #[tactic(auto, using(crate::proofs::Tables::position_none))]
-fn place_of(table: &[u8; 64], symbol: usize) -> Option<u8>
+fn place_of(table: &[u8; 64], symbol: u8) -> Option<u8>
     ensures { options.MatchOption result (occurs symbol table.now ≢ 1) (λ i. (i < 64) × (slice_index table.now i ≡ symbol) × (occurs symbol table.now ≡ 1)) }
 {
     let place = first_of(table, symbol)?;
-    let times = table
-        .iter()
-        .filter(|entry| usize::from(**entry) == symbol)
-        .count();
-    if times == 1 {
-        u8::try_from(place).ok()
-    } else {
+    if table[place + 1..].contains(&symbol) {
         None
+    } else {
+        u8::try_from(place).ok()
     }
 }
 
@@ -52,7 +48,7 @@ impl TryFrom<[u8; 64]> for CodeTable {
     fn try_from(shown: [u8; 64]) -> Result<CodeTable, InputRefusal> {
         let mut back = [0; 64];
         for (symbol, place) in back.iter_mut().enumerate() {
-            let Some(found) = place_of(&shown, symbol) else {
+            let Some(found) = place_of(&shown, symbol as u8) else {
                 return Err(InputRefusal::TableUnfit);
             };
             *place = found;

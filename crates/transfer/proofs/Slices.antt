@@ -1,12 +1,14 @@
 -- The words of a move as a slice of the area.
-use Rattle.std.proofs.Common.{◌≡◌, ℕ, zero, suc, ◌+◌, ◌-◌, ◌*◌, ◌<◌, ◌≤◌, Bool, List, [], ◌∷◌, ◌++◌, length, get_or, take, drop, set, Option, sym, refl, ap, ◌∙◌, ap₂, if◌then◌else◌, ◌&&◌, nat_lt, nat_le, ◌⊎◌, arith}
+use Rattle.std.proofs.Common.{◌≡◌, ℕ, zero, suc, ◌+◌, ◌-◌, ◌*◌, ◌<◌, ◌≤◌, Bool, List, [], ◌∷◌, ◌++◌, length, get_or, take, drop, set, Option, sym, refl, subst, ap, ◌∙◌, ap₂, if◌then◌else◌, ◌&&◌, nat_lt, nat_le, ◌⊎◌, arith}
 use Rattle.std.proofs.lemmas.List.{length-set, length-take, length-drop, take-append-drop, get_or-take, get_or-drop, set-append_left, set-append_right}
 use Rattle.std.proofs.lemmas.Bool.Decides.{nat_tests}
 use Rattle.std.proofs.lemmas.Grind.{common_steps}
 use Rattle.device.specs.Meaning.{Meaning}
 use Rattle.transfer.specs.declared.moves.Transfer.TheVariants.{Read, Write}
 use Rattle.transfer.specs.Symbols.{gather, send, packed, unpacked, stored, spread}
-use Rattle.transfer.specs.Moves.{span, write_effect, effect_of}
+use Rattle.transfer.specs.declared.moves.Move.{Move}
+use Rattle.transfer.specs.Moves.{Confined, span, write_effect, effect_of}
+use Rattle.transfer.proofs.Confined.{Fine, confined}
 
 -- n words of an area from i on, and what lies behind them
 abbrev pub part : ℕ → ℕ → List ℕ → List ℕ
@@ -76,3 +78,12 @@ module _ (ends : Bool) (i m start end : ℕ) (area : List ℕ) (d : Option Meani
 
   pub write_slice : effect_of (Write ends) i m area d ≡ write_effect area (send ends (spread (length words) 0 words) d)
   write_slice = grind (arith, spanned, spread_there (length words) same_start, spread_part start (length words) area, whole)
+
+-- and words that a read left in that slice make the area one that the move may leave
+module _ (ends : Bool) (x : Move) (is : x.transfer ≡ Read ends) (start end : ℕ) (area : List ℕ) (d : Option Meaning) (sound : Fine d)
+    (from : start ≡ if nat_lt x.m (length area) && nat_le x.i x.m then x.i else 0) (to : end ≡ if nat_lt x.m (length area) && nat_le x.i x.m then x.m + 1 else 0) where
+  pub read_confined : (l : List ℕ) → l ≡ stored (length (part start (end - start) area)) 0 (gather ends (8 * length (part start (end - start) area)) d).symbols (part start (end - start) area)
+      → Confined x area (take start area ++ (l ++ drop (end - start) (drop start area)))
+  read_confined l e =
+      let left = ap (λ t. (effect_of t x.i x.m area d).area) is ∙ read_slice ends x.i x.m start end area d from to in
+      rw e (subst (Confined x area) left (confined x area d sound))

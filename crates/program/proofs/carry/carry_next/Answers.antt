@@ -17,7 +17,7 @@ pub on_store-requires : goal.on_store-requires
 on_store-requires g c =
     let o = own_of c.args.slot c.args.regs.now c.args.area.now true (records c.args.buffers.now.table) (λ _. None) in
     let h = may_store o c.args.next (c.requires true (λ _. None)) _ c.go_to-in-Store.ensures _ _ _ c.in-Store.is in
-    record { cells = h.0; inside = h.1 }
+    record { cells = h.0; inside = grind (arith, nat_tests, h.1) }
 
 pub on_indexed-requires : goal.on_indexed-requires
 on_indexed-requires g c =

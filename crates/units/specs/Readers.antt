@@ -1,28 +1,28 @@
--- A tape reader, whose cells are a symbol or none each, holds what every device holds. Assumes nothing.
-use Rattle.std.specs.Prelude.{ℕ, ◌<◌, ◌≤◌, List, map, length, Some, None, Option, slice_index_or}
-use Rattle.std.proofs.Common.{◌≡◌, refl, ⊎_elim, arith}
-use Rattle.std.proofs.lemmas.List.{length-map, get_or-map, get_or_past}
-use Rattle.std.proofs.lemmas.Bool.{cases_lt}
-use Rattle.device.specs.Meaning.{Sound}
-use Rattle.units.specs.Frames.{cell_number}
+-- A tape reader, whose cells are made of the frames of a tape, holds what every device holds. Assumes nothing.
+use Rattle.std.specs.Prelude.{ℕ, ◌%◌, ◌<◌, ◌≤◌, List, [], ◌∷◌, map, length}
+use Rattle.std.proofs.Common.{zero, suc, arith}
+use Rattle.std.proofs.lemmas.List.{length-map}
+use Rattle.std.proofs.lemmas.Nat.{mod_below}
+use Rattle.std.proofs.lemmas.Bool.{cond_both}
+use Rattle.device.specs.Meaning.{Below, Sound}
+use Rattle.units.specs.Frames.{sound_frame, cell_of}
 use Rattle.units.specs.Units.{reader_of}
 
--- what stands in a cell is a symbol
-abbrev pub AllSymbols : List (Option ℕ) → Type 0
-AllSymbols cells = (k symbol : ℕ) → slice_index_or cells k None ≡ Some symbol → symbol < 64
+-- whatever the frame is
+pub cell_below : (frame : ℕ) → cell_of frame < 65
+cell_below frame =
+    let m = mod_below frame 64 (omega arith) in
+    cond_both (sound_frame frame) (frame % 64) 64 (λ cell. cell < 65) (λ _. omega arith) (λ _. omega arith)
 
-number_small : (cell : Option ℕ) → ((symbol : ℕ) → cell ≡ Some symbol → symbol < 64) → cell_number cell < 65
-number_small None h = omega arith
-number_small (Some symbol) h = let small = h symbol refl in omega arith
+cells_below : (frames : List ℕ) → Below 65 (map cell_of frames)
+cells_below [] k = omega arith
+cells_below (frame ∷ frames) zero = cell_below frame
+cells_below (frame ∷ frames) (suc k) = cells_below frames k
 
-pub reader_sound : (cells : List (Option ℕ)) (head : ℕ) → AllSymbols cells → head ≤ length cells → length cells ≤ 4096 → Sound (reader_of (map cell_number cells) head)
-reader_sound cells head symbols within few = record {
-  cells_small = λ k.
-      ⊎_elim
-      (λ (l : k < length cells). rw (get_or-map cell_number cells k None 0 l) (number_small (slice_index_or cells k None) (symbols k)))
-      (λ l. rw (get_or_past (map cell_number cells) k 0 (rw (length-map cells cell_number) l)) (omega arith))
-      (cases_lt k (length cells));
-  head_within = rw (length-map cells cell_number) within;
-  cells_fit = rw (length-map cells cell_number) few;
+pub reader_sound : (frames : List ℕ) (head : ℕ) → head ≤ length frames → length frames ≤ 4096 → Sound (reader_of (map cell_of frames) head)
+reader_sound frames head within few = record {
+  cells_small = cells_below frames;
+  head_within = rw (length-map frames cell_of) within;
+  cells_fit = rw (length-map frames cell_of) few;
   capacity_small = omega arith;
 }

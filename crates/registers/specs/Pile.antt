@@ -2,7 +2,7 @@
 --   stacked        what is on it, the newest first
 --   Tidy blank p   the cells of p that are not in use are blank
 --   pile_of        the tidy pile on which some things are, of which there are at most sixteen
-use Rattle.std.specs.Prelude.{◌≡◌, ℕ, ◌+◌, ◌-◌, ◌≤◌, List, ◌++◌, length, reverse, take, drop, replicate, min}
+use Rattle.std.specs.Prelude.{◌≡◌, ◌+◌, ◌-◌, ◌≤◌, List, ◌++◌, length, reverse, take, drop, replicate, min}
 use Rattle.std.proofs.Common.{arith, sym, ap, ◌∙◌, length-take-le, take-append-drop}
 use Rattle.std.proofs.lemmas.List.{length-append, length-replicate, length-reverse, reverse-reverse, take-replicate}
 use Rattle.std.proofs.Math.Seq.{take-append-add}
@@ -55,6 +55,6 @@ pile_of-stacked blank p tidy =
     ∙ ap (λ xs. below ++ xs) cut
     ∙ take-append-drop p.depth p.cells)
     (ap (min 16) deep ∙ min_of)
-    where
-  min_of : min 16 p.depth ≡ p.depth
-  min_of = omega (arith, p.fits)
+  where
+    min_of : min 16 p.depth ≡ p.depth
+    min_of = omega (arith, p.fits)

@@ -49,14 +49,24 @@ impl Area {
     }
 }
 
-// Word k of an image: six bytes, the top byte first; past the image's end they are zeros.
+// A word of an image that its end cuts short: past the end are zeros.
+fn cut_word(image: &[u8], k: usize) -> u64
+    requires { k < 32768 }
+    ensures { result ≡ image_word image.now k }
+{
+    let byte = |at: usize| image.get(6 * k + at).copied().unwrap_or(0);
+    u64::from_be_bytes([0, 0, byte(0), byte(1), byte(2), byte(3), byte(4), byte(5)])
+}
+
+// Word k of an image: six bytes, the top byte first.
 fn word_of(image: &[u8], k: usize) -> u64
     requires { k < 32768 }
     ensures { result ≡ image_word image.now k }
 {
-    let bytes = image.get(6 * k..).unwrap_or(&[]);
-    let byte = |at: usize| bytes.get(at).copied().unwrap_or(0);
-    u64::from_be_bytes([0, 0, byte(0), byte(1), byte(2), byte(3), byte(4), byte(5)])
+    match image.get(6 * k..6 * k + 6) {
+        Some(six) => u64::from_be_bytes([0, 0, six[0], six[1], six[2], six[3], six[4], six[5]]),
+        None => cut_word(image, k),
+    }
 }
 
 // Fills an area with an image, then zeros.
